@@ -6,11 +6,13 @@
 mod beside;
 mod desk;
 mod fault;
+mod giving;
 mod sink;
 mod source;
 
 pub use beside::{Beside, NoBeside};
 pub use desk::Desk;
 pub use fault::{EndFault, Failed};
+pub use giving::give_all;
 pub use sink::Sink;
 pub use source::Source;
