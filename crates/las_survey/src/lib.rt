@@ -3,9 +3,11 @@
 #![tactic(auto)]
 
 mod header;
+mod loading;
 mod number;
 mod plain;
 mod survey;
 
 pub use header::Header;
+pub use loading::{LoadFault, load};
 pub use survey::Survey;
