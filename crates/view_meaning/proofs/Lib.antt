@@ -1,2 +1,7 @@
 pub mod Reading
+pub mod Nearest
+pub mod Law
+pub mod Rows
+pub mod Spots
+pub mod Passing
 pub mod Examples
