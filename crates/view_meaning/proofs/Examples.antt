@@ -1,14 +1,13 @@
 -- Pictures worked by hand: the definitions give the bytes that arithmetic gives.
-use Rattle.std.proofs.Common.{◌≡◌, ℕ, List, [], ◌∷◌, ◌++◌, refl, replicate, false, ℤ, pos, negsuc}
+use Rattle.std.proofs.Common.{◌≡◌, ℕ, List, [], ◌∷◌, ◌++◌, refl, replicate, ℤ, pos, negsuc}
 use Rattle.std.specs.Prelude.{codes}
 use Rattle.std.specs.Int.{cast_unsigned, w32, to_le_bytes, w64}
 use Rattle.std.specs.List.{flat_map}
 use Rattle.view_base.specs.declared.place.Point.{Point}
-use Rattle.view_base.specs.declared.colour.Colouring.TheVariants.{Class}
 use Rattle.view_meaning.specs.Survey.{u8_at, u16_at, u32_at, u64_at, i32_at, record_count, record_at, point_of, class_byte, withheld_of}
-use Rattle.view_meaning.specs.Classes.{has, all_classes, class_at, classes, passes}
+use Rattle.view_meaning.specs.Classes.{has, class_at, classes, passes}
 use Rattle.view_meaning.specs.Camera.{Lens, spot, orthographic, perspective}
-use Rattle.view_meaning.specs.Picture.{View, is_candidate, candidates, depth_of, nearest, colour, pixel}
+use Rattle.view_meaning.specs.Picture.{by_class, is_candidate, candidates, depth_of, nearest, colour, pixel}
 
 abbrev zeros : ℕ → List ℕ
 zeros n = replicate n 0
@@ -46,12 +45,9 @@ one_pixel = record {
   far = 10;
 }
 
-abbrev all_by_class : Lens → View
-all_by_class lens = record { camera = lens; colouring = Class; filter = record { classes = all_classes; hide_withheld = false } }
-
 -- the pixel of a column and row in a picture of a file by class, all records shown
 abbrev shows : List ℕ → Lens → ℕ → ℕ → List ℕ
-shows b lens x y = pixel b (classes b []) (all_by_class lens) x y
+shows b lens x y = pixel b (classes b []) (by_class lens) x y
 
 abbrev class_2 : List ℕ
 class_2 = 0xC6 ∷ 0x86 ∷ 0xFA ∷ []

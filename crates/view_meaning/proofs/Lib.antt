@@ -4,4 +4,5 @@ pub mod Law
 pub mod Rows
 pub mod Spots
 pub mod Passing
+pub mod Words
 pub mod Examples

@@ -4,6 +4,7 @@ use Rattle.std.proofs.lemmas.Bool.Decides.{nat_tests}
 use Rattle.std.proofs.lemmas.List.Elements.{filter-append}
 use Rattle.std.specs.List.{filter, range_with_len}
 use Rattle.view_meaning.specs.Picture.{nearer, nearest_of}
+use Rattle.view_meaning.specs.Frame.{word_of}
 
 -- the best so far, or a later one that is strictly nearer
 abbrev pub or_later : (ℕ → ℕ) → Option ℕ → ℕ → Option ℕ
@@ -50,11 +51,6 @@ one_of depth n j (Some i) true below is = two (nat_lt (depth n) (depth i)) (belo
 pub best_below : (test : ℕ → Bool) (depth : ℕ → ℕ) (n j : ℕ) → best test depth n ≡ Some j → j < n
 best_below test depth zero j is = absurd (cc is)
 best_below test depth (suc n) j is = one_of depth n j (best test depth n) (test n) (best_below test depth n) (sym (best-more test depth n) ∙ is)
-
--- the word of a pixel: the depth above the number of its record, or all ones where there is none
-abbrev pub word_of : (ℕ → ℕ) → Option ℕ → ℕ
-word_of depth None = 2 ^ 64 - 1
-word_of depth (Some i) = depth i * 2 ^ 32 + i
 
 -- a record that passes lowers the word to its own where that is less
 pub word_of-more : (depth : ℕ → ℕ) (o : Option ℕ) (n : ℕ) → ((j : ℕ) → o ≡ Some j → j < n) → n < 2 ^ 32 → depth n < 2 ^ 32 - 1

@@ -1,5 +1,7 @@
 -- Pixels counted row by row.
-use Rattle.std.proofs.Common.{◌≡◌, ℕ, zero, suc, ◌+◌, ◌*◌, ◌<◌, ◌≤◌, List, [], ◌∷◌, ◌++◌, refl, sym, ◌∙◌, ap, arith, append-nil}
+use Rattle.std.proofs.Common.{◌≡◌, ℕ, zero, suc, ◌+◌, ◌*◌, ◌<◌, ◌≤◌, List, [], ◌∷◌, ◌++◌, refl, sym, ◌∙◌, ap, inl, inr, arith, append-nil}
+use Rattle.std.proofs.lemmas.Bool.{cases_lt}
+use Rattle.std.proofs.Math.Nat.{mul-le-mul_right}
 use Rattle.std.proofs.lemmas.Grind.{flat_map-append}
 use Rattle.std.specs.List.{flat_map, range_with_len}
 use Rattle.view_meaning.proofs.Nearest.{range_more}
@@ -44,3 +46,20 @@ flat_map_rows f width (suc height) =
     ∙ ap (λ l. l ++ flat_map f (range_with_len (height * width) width)) (flat_map_rows f width height)
     ∙ sym (flat_map-append f (range_with_len 0 (height * width)) (range_with_len (height * width) width))
     ∙ ap (flat_map f) (sym split)
+
+less_row : (x c y r width : ℕ) → x < width → y < r → y * width + x < r * width + c
+less_row x c y r width within below =
+    let more : suc y * width ≤ r * width = mul-le-mul_right width below in
+    let next : suc y * width ≡ y * width + width = grind arith in
+    omega (arith, more, next)
+
+-- two places in a picture with the same pixel number are the same place
+pub same_place : (x y c r width : ℕ) → x < width → c < width → y * width + x ≡ r * width + c → (x ≡ c) × (y ≡ r)
+same_place x y c r width x_in c_in same =
+    elim (cases_lt y r) [
+      | inl below ↦ absurd (omega (arith, same, less_row x c y r width x_in below))
+      | inr least ↦ elim (cases_lt r y) [
+        | inl above ↦ absurd (omega (arith, same, less_row c x r y width c_in above))
+        | inr most ↦ let e : y ≡ r = omega arith in (let f : y * width ≡ r * width = ap (λ (k : ℕ). k * width) e in omega (arith, same, f), e)
+      ]
+    ]

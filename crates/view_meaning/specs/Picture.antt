@@ -6,7 +6,7 @@ use Rattle.view_base.specs.declared.colour.Rgb.{Rgb}
 use Rattle.view_base.specs.declared.colour.Colouring as colouring
 use Rattle.view_base.specs.declared.colour.Colouring.TheVariants.{Class, Rgb16, Rgb8, Intensity}
 use Rattle.view_meaning.specs.Survey.{record_count, format_of, point_of, record_at, rgb_place, rgb_at, intensity_of}
-use Rattle.view_meaning.specs.Classes.{Filter, passes}
+use Rattle.view_meaning.specs.Classes.{Filter, all_classes, passes}
 use Rattle.view_meaning.specs.Camera.{Lens, Spot, spot}
 
 -- what a picture is of: a camera, where the colours come from, and which records show
@@ -115,3 +115,7 @@ NoneFalls b cs view x y = (j : ℕ) → j < record_count b → IsTrue (is_candid
 abbrev pub Shows : List ℕ → List ℕ → View → ℕ → ℕ → Option ℕ → Type 0
 Shows b cs view x y None = NoneFalls b cs view x y
 Shows b cs view x y (Some i) = IsNearest b cs view x y i
+
+-- the view of all records by class
+abbrev pub by_class : Lens → View
+by_class lens = record { camera = lens; colouring = Class; filter = record { classes = all_classes; hide_withheld = false } }

@@ -1,0 +1,41 @@
+ghost use Rattle.std.specs.Prelude.{◌≡◌, ◌*◌, ◌+◌, ◌<◌, ◌≤◌, ◌^◌, IfOk, IfSome, length, []};
+ghost use Rattle.plain_picture.specs.Frame.{IsFrame, NamesNearest, plotted};
+ghost use Rattle.view_meaning.specs.Classes.{classes};
+ghost use Rattle.view_meaning.specs.Picture.{by_class};
+
+use int_camera::{Camera, Spot, project};
+use las_points::xyz;
+use las_survey::Survey;
+use std::alloc::Global;
+use view_base::{OutOfMemory, Words};
+
+/// The word of a pixel on which no record falls. No record has it, since a depth is at most
+/// 2^32 - 2.
+pub(crate) const EMPTY: u64 = u64::MAX;
+
+/// One word for each pixel, row by row from the top left: the depth of the nearest record above
+/// its number, so that the least word is the nearest record and, at equal depths, the lower number
+/// (the packed depth of Schütz et al. 2021), or all ones where no record falls.
+pub fn nearest_words(alloc: Global, survey: &Survey, camera: &Camera) -> Result<Words, OutOfMemory>
+    ensures words { IfOk result (λ words. IsFrame survey.now (classes survey.now []) (by_class camera.now) words.items) }
+    ensures nearest { IfOk result (λ words. NamesNearest survey.now (classes survey.now []) (by_class camera.now) words.items) }
+{
+    let pixels = camera.width() as usize * camera.height() as usize;
+    let mut words = vec![in alloc; EMPTY; pixels]?;
+    for number in 0..survey.records() {
+        let spot = project(camera, xyz(survey.point_bytes(number)));
+        plot(&mut words, spot, number);
+    }
+    Ok(Words::from_vec(words))
+}
+
+/// Lowers the word of the pixel on which a record falls to the record's own, where that is less.
+fn plot(words: &mut [u64], spot: Option<Spot>, number: u32)
+    requires { IfSome spot (λ s. s.pixel < length words.old) }
+    ensures { words.new ≡ plotted words.old spot number }
+{
+    if let Some(spot) = spot {
+        let word = &mut words[spot.pixel as usize];
+        *word = (*word).min((u64::from(spot.depth) << 32) + u64::from(number));
+    }
+}
