@@ -5,4 +5,6 @@ pub mod Rows
 pub mod Spots
 pub mod Passing
 pub mod Words
+pub mod Plotting
+pub mod Colours
 pub mod Examples

@@ -1,5 +1,5 @@
 -- Pixels counted row by row.
-use Rattle.std.proofs.Common.{◌≡◌, ℕ, zero, suc, ◌+◌, ◌*◌, ◌<◌, ◌≤◌, List, [], ◌∷◌, ◌++◌, refl, sym, ◌∙◌, ap, inl, inr, arith, append-nil}
+use Rattle.std.proofs.Common.{◌≡◌, ℕ, zero, suc, ◌+◌, ◌*◌, ◌<◌, ◌≤◌, List, [], length, get_or, ◌∷◌, ◌++◌, refl, sym, ◌∙◌, ap, inl, inr, arith, append-nil}
 use Rattle.std.proofs.lemmas.Bool.{cases_lt}
 use Rattle.std.proofs.Math.Nat.{mul-le-mul_right}
 use Rattle.std.proofs.lemmas.Grind.{flat_map-append}
@@ -22,7 +22,7 @@ range-append a (suc m) n =
     ap (λ (k : ℕ). range_with_len a k) e ∙ ap (λ l. a ∷ l) (range-append (a + 1) m n ∙ ap (λ (k : ℕ). range_with_len (a + 1) m ++ range_with_len k n) f)
 
 -- a range that begins later
-flat_map-shift : {A : Type 0} (f : ℕ → List A) → (a b n : ℕ) → flat_map (λ k. f (a + k)) (range_with_len b n) ≡ flat_map f (range_with_len (a + b) n)
+pub flat_map-shift : {A : Type 0} (f : ℕ → List A) → (a b n : ℕ) → flat_map (λ k. f (a + k)) (range_with_len b n) ≡ flat_map f (range_with_len (a + b) n)
 flat_map-shift f a b zero = refl
 flat_map-shift f a b (suc n) =
     let e : a + (b + 1) ≡ a + b + 1 = omega arith in
@@ -63,3 +63,20 @@ same_place x y c r width x_in c_in same =
         | inr most ↦ let e : y ≡ r = omega arith in (let f : y * width ≡ r * width = ap (λ (k : ℕ). k * width) e in omega (arith, same, f), e)
       ]
     ]
+
+-- the pixel number of a place in a picture is below the number of pixels
+pub place_below : (x y width height : ℕ) → x < width → y < height → y * width + x < width * height
+place_below x y width height x_in y_in =
+    let more : suc y * width ≤ height * width = mul-le-mul_right width y_in in
+    let next : suc y * width ≡ y * width + width = grind arith in
+    let turned : height * width ≡ width * height = grind arith in
+    omega (arith, more, next, turned)
+
+-- a list is its items by their places
+pub flat_map-places : {X A : Type 0} (f : X → List A) → (xs : List X) (d : X) → flat_map f xs ≡ flat_map (λ k. f (get_or xs k d)) (range_with_len 0 (length xs))
+flat_map-places f [] d = refl
+flat_map-places {X} {A} f (x ∷ xs) d =
+    let later = λ (k : ℕ). f (get_or (x ∷ xs) k d) in
+    let next : flat_map (λ k. f (get_or xs k d)) (range_with_len 0 (length xs)) ≡ flat_map (λ k. later (1 + k)) (range_with_len 0 (length xs)) =
+    flat_map-same (λ k. f (get_or xs k d)) (λ k. later (1 + k)) 0 (length xs) (λ k low high. let e : suc k ≡ 1 + k = omega arith in ap later e) in
+    ap (λ l. f x ++ l) (flat_map-places f xs d ∙ next ∙ flat_map-shift later 1 0 (length xs))
