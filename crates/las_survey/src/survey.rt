@@ -56,6 +56,7 @@ impl Survey {
     /// The number of point records, at most 53687091: a record has at least 20 of the bytes.
     pub fn records(&self) -> u32
         ensures count { result ≡ record_count self.now }
+        ensures plain { IsPlain self.now }
         ensures small { result ≤ 53687091 }
     {
         self.header.records as u32

@@ -1,2 +1,1 @@
-pub mod Frame
-pub mod Colours
+pub mod Plotted

@@ -1,6 +1,7 @@
-ghost use Rattle.std.specs.Prelude.{◌≡◌, ◌*◌, ◌+◌, ◌<◌, ◌≤◌, ◌^◌, IfOk, IfSome, length, []};
-ghost use Rattle.plain_picture.specs.Frame.{IsFrame, NamesNearest, plotted};
+ghost use Rattle.std.specs.Prelude.{◌≡◌, ◌*◌, ◌+◌, ◌<◌, ◌≤◌, ◌^◌, ◌-◌, IfOk, IfSome, length, replicate, []};
+ghost use Rattle.plain_picture.specs.Plotted.{plotted};
 ghost use Rattle.view_meaning.specs.Classes.{classes};
+ghost use Rattle.view_meaning.specs.Frame.{IsFrame, NamesNearest};
 ghost use Rattle.view_meaning.specs.Picture.{by_class};
 
 use int_camera::{Camera, Spot, project};
@@ -22,11 +23,21 @@ pub fn nearest_words(alloc: Global, survey: &Survey, camera: &Camera) -> Result<
 {
     let pixels = camera.width() as usize * camera.height() as usize;
     let mut words = vec![in alloc; EMPTY; pixels]?;
+    plot_all(&mut words, survey, camera);
+    Ok(Words::from_vec(words))
+}
+
+/// Plots every record into words that are all ones.
+fn plot_all(words: &mut [u64], survey: &Survey, camera: &Camera)
+    requires empty { words.old ≡ replicate (camera.now.width * camera.now.height) (2 ^ 64 - 1) }
+    requires deepest { camera.now.far ≤ 2 ^ 32 - 2 }
+    ensures words { IsFrame survey.now (classes survey.now []) (by_class camera.now) words.new }
+    ensures nearest { NamesNearest survey.now (classes survey.now []) (by_class camera.now) words.new }
+{
     for number in 0..survey.records() {
         let spot = project(camera, xyz(survey.point_bytes(number)));
-        plot(&mut words, spot, number);
+        plot(words, spot, number);
     }
-    Ok(Words::from_vec(words))
 }
 
 /// Lowers the word of the pixel on which a record falls to the record's own, where that is less.
