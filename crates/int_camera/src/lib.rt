@@ -1,0 +1,11 @@
+//! Integer cameras: the numbers that describe one, their ranges, and where a point falls in its
+//! picture.
+#![tactic(auto)]
+
+mod camera;
+mod numbers;
+mod projection;
+
+pub use camera::Camera;
+pub use numbers::{CameraLimit, CameraNumbers, Kind};
+pub use projection::{Spot, project};
