@@ -1,6 +1,7 @@
 -- The numbers of a camera: the range of each, the first that is out of its range, and the camera that they describe.
 use Rattle.std.specs.Prelude.{ℕ, ◌+◌, ◌-◌, ◌*◌, ◌^◌, ◌<◌, ◌≤◌, Bool, ◌||◌, ℤ, pos, neg_ℤ, ◌*ℤ◌, ◌≤ℤ◌, int_lt, unsigned_abs, List, [], ◌∷◌, ◌++◌, slice_index_or, Option, Some, None}
-use Rattle.std.specs.List.{position, zip}
+use Rattle.std.specs.List.{find, range_with_len}
+use Rattle.std.specs.Option.{option_map}
 use Rattle.view_base.specs.declared.place.Point.{Point}
 use Rattle.view_meaning.specs.Camera.{Projection, orthographic, perspective, Lens}
 use Rattle.int_camera.specs.declared.numbers.Kind.{Kind}
@@ -55,18 +56,17 @@ ranges kind near =
     ∷ near_range kind ∷ (near, deepest)
     ∷ (pos 1, pos 9437184) ∷ []
 
--- whether a number is out of its range
-abbrev pub is_outside : ℤ × (ℤ × ℤ) → Bool
-is_outside x = int_lt x.0 x.1.0 || int_lt x.1.1 x.0
+-- whether a number is below the least or above the greatest of a range
+abbrev pub is_out : ℤ × ℤ → ℤ → Bool
+is_out range value = int_lt value range.0 || int_lt range.1 value
 
--- an index among numbers, as a place from 1 with the number there
-abbrev pub limit_at : List ℤ → Option ℕ → Option CameraLimit
-limit_at numbers None = None
-limit_at numbers (Some i) = Some record { place = i + 1; value = slice_index_or numbers i (pos 0) }
+-- whether the number of a place from 1 to 19 is out of its range
+unfoldable pub is_outside : Projection → List ℤ → ℕ → Bool
+is_outside kind n place = is_out (slice_index_or (ranges kind (number n 17)) (place - 1) (pos 0, pos 0)) (number (looked_at n) place)
 
--- the first of a camera's numbers that is out of its range, with its place, or none
+-- the first number of a camera that is out of its range, with its place, or none
 unfoldable pub first_outside : Projection → List ℤ → Option CameraLimit
-first_outside kind n = limit_at (looked_at n) (position is_outside (zip (looked_at n) (ranges kind (number n 17))))
+first_outside kind n = option_map (λ place. record { place = place; value = number (looked_at n) place }) (find (is_outside kind n) (range_with_len 1 19))
 
 -- the three numbers from a place on, as a point
 abbrev pub point_from : List ℤ → ℕ → Point

@@ -6,7 +6,7 @@ use std::marker::Model;
 use view_base::Point;
 
 /// A camera whose numbers are all in range. Contracts see its `Lens`.
-#[derive(Clone, Copy, Debug, PartialEq, Eq)]
+#[derive(Clone, Copy, Debug)]
 pub struct Camera {
     pub(crate) width: u32,
     pub(crate) height: u32,

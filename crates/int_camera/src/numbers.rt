@@ -1,5 +1,5 @@
-ghost use Rattle.std.specs.Prelude.{◌≡◌, ◌<◌};
-ghost use Rattle.int_camera.specs.Limits.{first_outside, projection_of, ranges};
+ghost use Rattle.std.specs.Prelude.{◌≡◌};
+ghost use Rattle.int_camera.specs.Limits.{first_outside, is_out, projection_of, ranges};
 
 /// How a camera maps points.
 #[derive(Clone, Copy, Debug, PartialEq, Eq)]
@@ -32,8 +32,7 @@ pub(crate) fn first_limit(numbers: &CameraNumbers) -> Option<CameraLimit>
 {
     let allowed = ranges_of(numbers.kind, numbers.n[16]);
     for (i, value) in numbers.n.iter().enumerate() {
-        let (least, greatest) = allowed[i];
-        if *value < least || greatest < *value {
+        if is_out(allowed[i], *value) {
             return Some(CameraLimit {
                 place: i as u8 + 1,
                 value: *value,
@@ -41,13 +40,20 @@ pub(crate) fn first_limit(numbers: &CameraNumbers) -> Option<CameraLimit>
         }
     }
     let pixels = numbers.n[0] * numbers.n[1];
-    if pixels > allowed[18].1 {
+    if is_out(allowed[18], pixels) {
         return Some(CameraLimit {
             place: 19,
             value: pixels,
         });
     }
     None
+}
+
+/// Whether a number is below the least or above the greatest of a range.
+fn is_out(range: (i128, i128), value: i128) -> bool
+    ensures { result ≡ is_out range value }
+{
+    value < range.0 || range.1 < value
 }
 
 /// The least and the greatest of each number that is looked at.

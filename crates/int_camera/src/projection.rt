@@ -1,4 +1,4 @@
-ghost use Rattle.std.specs.Prelude.{◌≡◌, ◌+◌, ◌*◌, ◌-◌, ◌^◌, ◌<◌, ◌≤◌, ℤ, pos, neg_ℤ, ◌+ℤ◌, ◌-ℤ◌, ◌*ℤ◌, ◌≤ℤ◌, IfSome};
+ghost use Rattle.std.specs.Prelude.{◌≡◌, ◌+◌, ◌*◌, ◌/◌, ◌-◌, ◌^◌, ◌<◌, ◌≤◌, ℤ, pos, neg_ℤ, ◌+ℤ◌, ◌-ℤ◌, ◌*ℤ◌, ◌≤ℤ◌, IfSome};
 ghost use Rattle.view_meaning.specs.Camera.{spot, away, between, dot, floor, from_edge};
 ghost use Rattle.int_camera.specs.Limits.{IsVector};
 ghost use Rattle.int_camera.specs.Seen.{seen};
@@ -17,6 +17,7 @@ pub struct Spot {
 
 /// Where a point shows in a camera's picture, and `None` exactly where it is not in view. Takes no
 /// memory.
+#[tactic(auto, unfolding(view_meaning::specs::Camera::spot))]
 pub fn project(camera: &Camera, p: Point) -> Option<Spot>
     ensures spot { result ≡ seen camera.now (spot camera.now p) }
     ensures pixel { IfSome result (λ s. s.pixel < camera.now.width * camera.now.height) }
@@ -40,24 +41,44 @@ fn place(distance: i64, scale: u64, size: u32) -> Option<u32>
     requires distance { (neg_ℤ (pos (2 ^ 49)) ≤ℤ distance) × (distance ≤ℤ pos (2 ^ 49)) }
     requires scale { (1 ≤ scale) × (scale ≤ 2 ^ 40) }
     requires size { (1 ≤ size) × (size ≤ 4096) }
-    ensures { result ≡ from_edge (floor distance scale) size }
+    ensures value { result ≡ from_edge (floor distance scale) size }
+    ensures within { IfSome result (λ place. place < size) }
 {
-    let place = distance.div_euclid(scale as i64) + i64::from(size / 2);
-    if 0 <= place && place < i64::from(size) {
-        Some(place as u32)
-    } else {
-        None
+    // The quotient, rounded down, is below the size exactly where the distance is below the size
+    // times the scale: a point beside the picture costs no division.
+    let offset = from_near_edge(distance, scale, size);
+    if offset < 0 {
+        return None;
     }
+    let offset = offset as u64;
+    if offset >= u64::from(size) * scale {
+        return None;
+    }
+    Some((offset / scale) as u32)
+}
+
+/// The distance from the left or top edge of the picture in place of its middle.
+fn from_near_edge(distance: i64, scale: u64, size: u32) -> i64
+    requires distance { (neg_ℤ (pos (2 ^ 49)) ≤ℤ distance) × (distance ≤ℤ pos (2 ^ 49)) }
+    requires scale { scale ≤ 2 ^ 40 }
+    requires size { size ≤ 4096 }
+    ensures { result ≡ distance +ℤ pos (size / 2 * scale) }
+{
+    distance + (u64::from(size / 2) * scale) as i64
 }
 
 /// The depth of a distance ahead of the eye, where it lies between near and far.
 fn depth(distance: i64, unit: u64, near: u32, far: u32) -> Option<u32>
     requires distance { (neg_ℤ (pos (2 ^ 49)) ≤ℤ distance) × (distance ≤ℤ pos (2 ^ 49)) }
     requires unit { (1 ≤ unit) × (unit ≤ 2 ^ 40) }
-    ensures { result ≡ between (floor distance unit) near far }
+    ensures value { result ≡ between (floor distance unit) near far }
+    ensures within { IfSome result (λ depth. depth ≤ far) }
 {
-    let depth = distance.div_euclid(unit as i64);
-    if i64::from(near) <= depth && depth <= i64::from(far) {
+    if distance < 0 {
+        return None;
+    }
+    let depth = distance as u64 / unit;
+    if u64::from(near) <= depth && depth <= u64::from(far) {
         Some(depth as u32)
     } else {
         None
