@@ -88,6 +88,10 @@ lens_of kind n = record {
   far = unsigned_abs (number n 18);
 }
 
+-- a number of 32 bits with a sign
+abbrev pub IsCoordinate : ℤ → Type 0
+IsCoordinate z = (neg_ℤ (pos 2147483648) ≤ℤ z) × (z ≤ℤ pos 2147483647)
+
 -- a vector whose parts are in range
 pub record IsVector (v : Point) : Type 0 where
   pub x : (neg_ℤ (pos 32768) ≤ℤ v.x) × (v.x ≤ℤ pos 32767)

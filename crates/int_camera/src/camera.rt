@@ -1,5 +1,5 @@
-ghost use Rattle.std.specs.Prelude.{◌≡◌, ◌*◌, ◌≤◌, pos, neg_ℤ, ◌≤ℤ◌, None, Some, IfErr, IfOk, OnOk};
-ghost use Rattle.int_camera.specs.Limits.{first_outside, lens_of, projection_of};
+ghost use Rattle.std.specs.Prelude.{◌≡◌, ◌+◌, ◌*◌, ◌≤◌, None, Some, IfErr, IfOk, OnOk};
+ghost use Rattle.int_camera.specs.Limits.{first_outside, lens_of, number, point_from, projection_of, IsCoordinate};
 
 use crate::numbers::{CameraLimit, CameraNumbers, first_limit};
 use std::marker::Model;
@@ -59,10 +59,10 @@ impl Camera {
         Camera {
             width: n[0] as u32,
             height: n[1] as u32,
-            eye: point(n[2], n[3], n[4]),
-            right: point(n[5], n[6], n[7]),
-            down: point(n[8], n[9], n[10]),
-            forward: point(n[11], n[12], n[13]),
+            eye: point_from(numbers, 3),
+            right: point_from(numbers, 6),
+            down: point_from(numbers, 9),
+            forward: point_from(numbers, 12),
             scale: n[14] as u64,
             unit: n[15] as u64,
             near: n[16] as u32,
@@ -91,16 +91,18 @@ impl Camera {
     }
 }
 
-/// The point of three numbers that fit its coordinates.
-fn point(x: i128, y: i128, z: i128) -> Point
-    requires x { (neg_ℤ (pos 2147483648) ≤ℤ x) × (x ≤ℤ pos 2147483647) }
-    requires y { (neg_ℤ (pos 2147483648) ≤ℤ y) × (y ≤ℤ pos 2147483647) }
-    requires z { (neg_ℤ (pos 2147483648) ≤ℤ z) × (z ≤ℤ pos 2147483647) }
-    ensures { result ≡ record { x = x; y = y; z = z } }
+/// The three numbers from a place on, as a point.
+fn point_from(numbers: &CameraNumbers, place: usize) -> Point
+    requires place { (1 ≤ place) × (place ≤ 16) }
+    requires x { IsCoordinate (number numbers.now.n place) }
+    requires y { IsCoordinate (number numbers.now.n (place + 1)) }
+    requires z { IsCoordinate (number numbers.now.n (place + 2)) }
+    ensures { result ≡ point_from numbers.now.n place }
 {
+    let n = &numbers.n;
     Point {
-        x: x as i32,
-        y: y as i32,
-        z: z as i32,
+        x: n[place - 1] as i32,
+        y: n[place] as i32,
+        z: n[place + 1] as i32,
     }
 }
