@@ -1,5 +1,5 @@
 -- What is known of a camera's numbers where none is out of its range.
-use Rattle.std.proofs.Common.{◌≡◌, ℕ, ◌+◌, ◌-◌, ◌*◌, ◌^◌, ◌<◌, ◌≤◌, false, ℤ, pos, negsuc, neg_ℤ, ◌*ℤ◌, ◌≤ℤ◌, List, length, get_or, Option, Some, None, T, Fits, FitsSigned, nat_abs, refl, sym, ◌∙◌, ap, subst, arith, rules}
+use Rattle.std.proofs.Common.{◌≡◌, ℕ, ◌+◌, ◌-◌, ◌*◌, ◌^◌, ◌<◌, ◌≤◌, false, ℤ, pos, negsuc, neg_ℤ, ◌*ℤ◌, ◌≤ℤ◌, List, length, get_or, Option, Some, None, T, Fits, FitsSigned, nat_abs, refl, sym, ◌∙◌, arith}
 use Rattle.std.specs.List.{find, range_with_len}
 use Rattle.std.specs.Option.{option_map}
 use Rattle.std.proofs.lemmas.Int.{ints, to_z-of_z}
@@ -7,11 +7,11 @@ use lib.Signed.{non_neg}
 use mir.Val.{to_z, of_z}
 use mir.Syntax.{w32, w64, w128}
 use Rattle.view_base.specs.declared.place.Point.{Point}
-use Rattle.view_meaning.specs.Camera.{Projection, orthographic}
+use Rattle.view_meaning.specs.Camera.{orthographic}
 use Rattle.int_camera.specs.declared.numbers.Kind.{Kind}
 use Rattle.int_camera.specs.declared.numbers.Kind.TheVariants.{Ortho}
 use Rattle.int_camera.specs.declared.numbers.CameraLimit.{CameraLimit}
-use Rattle.int_camera.specs.Limits.{first_outside, is_out, is_outside, looked_at, number, point_from, projection_of, ranges, IsCoordinate, IsVector}
+use Rattle.int_camera.specs.Limits.{first_outside, is_outside, number, point_from, projection_of, ranges, IsCoordinate, IsVector}
 use Rattle.int_camera.proofs.Limits.{is_outside-at, is_outside-pixels, none_passes, within}
 
 -- the only kind there is

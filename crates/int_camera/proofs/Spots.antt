@@ -1,7 +1,7 @@
 -- The spot of an orthographic camera by its column, row and depth.
-use Rattle.std.proofs.Common.{◌≡◌, ℕ, ◌+◌, ◌*◌, ℤ, Option, Some, None, refl, sym, ap}
+use Rattle.std.proofs.Common.{◌≡◌, ℕ, ◌+◌, ◌*◌, ℤ, Some, None, refl}
 use Rattle.view_base.specs.declared.place.Point.{Point}
-use Rattle.view_meaning.specs.Camera.{Lens, orthographic, spot, spot_of, spot_by, floor, dot, away, from_edge, between}
+use Rattle.view_meaning.specs.Camera.{Lens, orthographic, spot, spot_of, floor, dot, away, from_edge, between}
 use Rattle.int_camera.specs.Seen.{seen}
 
 -- the spot of a camera whose kind is known

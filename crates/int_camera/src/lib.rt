@@ -5,6 +5,8 @@
 mod camera;
 mod numbers;
 mod projection;
+#[cfg(test)]
+mod tests;
 
 pub use camera::Camera;
 pub use numbers::{CameraLimit, CameraNumbers, Kind};

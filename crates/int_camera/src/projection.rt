@@ -17,7 +17,7 @@ pub struct Spot {
 
 /// Where a point shows in a camera's picture, and `None` exactly where it is not in view. Takes no
 /// memory.
-#[tactic(auto, unfolding(view_meaning::specs::Camera::spot))]
+#[inline]
 pub fn project(camera: &Camera, p: Point) -> Option<Spot>
     ensures spot { result ≡ seen camera.now (spot camera.now p) }
     ensures pixel { IfSome result (λ s. s.pixel < camera.now.width * camera.now.height) }
@@ -35,8 +35,8 @@ pub fn project(camera: &Camera, p: Point) -> Option<Spot>
     })
 }
 
-/// The column or row, counted from the edge, of a distance from the middle, where the picture has
-/// it.
+/// The column or row, counted from the edge, of a distance from the picture's middle, where the
+/// picture has it.
 fn place(distance: i64, scale: u64, size: u32) -> Option<u32>
     requires distance { (neg_ℤ (pos (2 ^ 49)) ≤ℤ distance) × (distance ≤ℤ pos (2 ^ 49)) }
     requires scale { (1 ≤ scale) × (scale ≤ 2 ^ 40) }
@@ -57,11 +57,11 @@ fn place(distance: i64, scale: u64, size: u32) -> Option<u32>
     Some((offset / scale) as u32)
 }
 
-/// The distance from the left or top edge of the picture in place of its middle.
+/// A distance from the picture's middle as one from its left or top edge.
 fn from_near_edge(distance: i64, scale: u64, size: u32) -> i64
     requires distance { (neg_ℤ (pos (2 ^ 49)) ≤ℤ distance) × (distance ≤ℤ pos (2 ^ 49)) }
-    requires scale { scale ≤ 2 ^ 40 }
-    requires size { size ≤ 4096 }
+    requires scale { (1 ≤ scale) × (scale ≤ 2 ^ 40) }
+    requires size { (1 ≤ size) × (size ≤ 4096) }
     ensures { result ≡ distance +ℤ pos (size / 2 * scale) }
 {
     distance + (u64::from(size / 2) * scale) as i64
@@ -85,8 +85,8 @@ fn depth(distance: i64, unit: u64, near: u32, far: u32) -> Option<u32>
     }
 }
 
-/// How far a point is from the eye along a vector, in lengths of the vector times units: the sum
-/// of the three products.
+/// How far a point is from the eye along a vector, in the file's units times the vector's length:
+/// the sum of the three products.
 fn distance_along(vector: &Point, p: &Point, eye: &Point) -> i64
     requires vector { IsVector vector.now }
     ensures value { result ≡ dot vector.now (away p.now eye.now) }

@@ -1,5 +1,5 @@
-use Rattle.std.proofs.Common.{◌≡◌, ◌<◌, ◌≤◌, ℕ, ◌+◌, ℤ, pos, ◌*ℤ◌, ◌≤ℤ◌, Bool, true, false, FitsSigned, List, length, get_or, below_more, sym, ◌∙◌, ap, subst, arith, rules}
-use Rattle.std.proofs.lemmas.Int.{ints, to_z-of_z}
+use Rattle.std.proofs.Common.{◌≡◌, ◌<◌, ℕ, ◌+◌, ℤ, pos, ◌*ℤ◌, Bool, false, FitsSigned, List, length, get_or, below_more, sym, ◌∙◌, ap, arith, rules}
+use Rattle.std.proofs.lemmas.Int.{to_z-of_z}
 use mir.Syntax.{w128}
 use Rattle.view_meaning.specs.Camera.{Projection}
 use Rattle.int_camera.specs.Limits.{is_out, is_outside, number, projection_of, ranges}

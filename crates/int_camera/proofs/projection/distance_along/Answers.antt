@@ -1,5 +1,5 @@
-use Rattle.std.proofs.Common.{FitsSigned, w64, arith, rules, refl, ◌∙◌, sym}
-use Rattle.std.proofs.lemmas.Int.{ints, to_z-of_z}
+use Rattle.std.proofs.Common.{arith}
+use Rattle.std.proofs.lemmas.Int.{to_z-of_z}
 use Rattle.int_camera.proofs.projection.distance_along.Goals as goal
 
 pub returns-clause-value : goal.returns-clause-value

@@ -1,4 +1,4 @@
-use Rattle.std.proofs.Common.{◌≤◌, ◌^◌, unsigned_abs, FitsSigned, ◌*ℤ◌, w64, arith, rules}
+use Rattle.std.proofs.Common.{◌^◌, w64, arith}
 use Rattle.std.proofs.lemmas.Int.{ints, to_z-of_z, fits_signed_mul}
 use Rattle.int_camera.proofs.Products.{abs_within, product_small}
 use Rattle.int_camera.proofs.projection.product.Goals as goal

@@ -1,6 +1,5 @@
-use Rattle.std.proofs.Common.{◌≡◌, ◌∙◌, ◌+◌, ◌*◌, ℤ, FitsSigned, w64, Some, None, refl, sym, subst, arith, rules}
+use Rattle.std.proofs.Common.{◌≡◌, ◌∙◌, ◌+◌, ◌*◌, FitsSigned, w64, Some, None, refl, sym, subst, rules}
 use Rattle.std.proofs.lemmas.Int.{to_z-of_z}
-use Rattle.view_base.specs.declared.place.Point.{Point}
 use Rattle.view_meaning.specs.Camera.{Lens, orthographic, spot, dot, away, floor, from_edge, between}
 use Rattle.int_camera.specs.Seen.{seen}
 use Rattle.int_camera.specs.declared.camera.Camera.TheInside.{Inside}
