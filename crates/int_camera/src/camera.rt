@@ -1,4 +1,4 @@
-ghost use Rattle.std.specs.Prelude.{◌≡◌, ◌+◌, ◌*◌, ◌≤◌, None, Some, IfErr, IfOk, OnOk};
+ghost use Rattle.std.specs.Prelude.{◌≡◌, ◌+◌, ◌*◌, ◌≤◌, None, Some, IfErr, IfOk, OnOk, ◌-◌, ◌^◌};
 ghost use Rattle.int_camera.specs.Limits.{first_outside, lens_of, number, point_from, projection_of, IsCoordinate};
 
 use crate::numbers::{CameraLimit, CameraNumbers, first_limit};
@@ -76,6 +76,7 @@ impl Camera {
         ensures least { 1 ≤ result }
         ensures greatest { result ≤ 4096 }
         ensures pixels { self.now.width * self.now.height ≤ 9437184 }
+        ensures deepest { self.now.far ≤ 2 ^ 32 - 2 }
     {
         self.width
     }

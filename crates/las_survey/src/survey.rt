@@ -68,6 +68,7 @@ impl Survey {
         ensures bytes { result.now ≡ take (record_length self.now) (drop (record_at self.now i) self.now) }
         ensures whole { length result.now ≡ record_length self.now }
         ensures least { 20 ≤ record_length self.now }
+        ensures plain { IsPlain self.now }
     {
         let size = usize::from(self.header.length);
         let at = self.header.points_at as usize + i as usize * size;

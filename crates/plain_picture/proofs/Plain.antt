@@ -1,18 +1,24 @@
 -- One more record of a plain survey.
-use Rattle.std.proofs.Common.{◌≡◌, ℕ, suc, ◌+◌, ◌*◌, ◌-◌, ◌%◌, ◌^◌, ◌<◌, ◌≤◌, List, [], length, get_or, take, drop, slice_index, Option, Some, None, if◌then◌else◌, nat_le, refl, sym, ◌∙◌, ap, subst, arith}
+use Rattle.std.proofs.Common.{◌≡◌, ℕ, suc, ◌+◌, ◌*◌, ◌-◌, ◌%◌, ◌^◌, ◌<◌, ◌≤◌, List, [], length, get_or, take, drop, slice_index, IfSome, inl, inr, ◌/◌, Option, Some, None, refl, sym, ◌∙◌, ap, subst, arith}
+use Rattle.std.proofs.lemmas.Bool.{cases_lt}
+use Rattle.std.proofs.lemmas.List.{get_or-drop, get_or-take, get_or_default}
 use Rattle.std.proofs.lemmas.List.FromFn.{get_or-map-range_with_len}
+use Rattle.std.proofs.Math.Nat.{mod-lt, div-add-mod', mul-le-mul_right}
+use Rattle.view_base.specs.declared.colour.Colouring.TheVariants.{Class}
 use Rattle.view_base.specs.declared.place.Point.{Point}
-use Rattle.view_meaning.specs.Survey.{IsPlain, format_of, record_length, record_at, record_count, point_of, i32_at, class_byte}
+use Rattle.view_meaning.specs.Survey.{IsPlain, format_of, record_length, record_at, record_count, point_of, i32_at, u8_at, class_byte, class_place}
 use Rattle.view_meaning.specs.Classes.{class_at, class_of, classes}
 use Rattle.view_meaning.specs.Camera as meaning
 use Rattle.view_meaning.specs.Camera.{Lens, spot}
-use Rattle.view_meaning.specs.Picture.{by_class}
+use Rattle.view_meaning.specs.Picture.{View, Shows, by_class, class_colour, colour}
+use Rattle.view_meaning.specs.Frame.{record_in, IsFrame, NamesNearest}
 use Rattle.view_meaning.proofs.Reading.{i32_at_part}
 use Rattle.view_meaning.proofs.Passing.{passes-all}
 use Rattle.view_meaning.proofs.Plotting.{IsFrameBelow, frame_skips, frame_lowers}
 use Rattle.int_camera.specs.declared.projection.Spot.{Spot}
 use Rattle.int_camera.specs.Seen.{seen}
 use Rattle.plain_picture.specs.Plotted.{plotted}
+use Rattle.plain_picture.specs.Names.{NamesOne}
 
 -- the class of a record of the file itself
 pub class_read : (b : List ℕ) (i : ℕ) → i < record_count b → slice_index (classes b []) i ≡ class_of (format_of b) (class_byte b i)
@@ -53,5 +59,36 @@ plotted_more b lens n next words new bytes p o plain counts few far after taken 
     let point : p ≡ point_of b n = read ∙ ap xyz_of taken ∙ point_read b n least in
     let drawn_is : new ≡ plotted words (seen lens (spot lens (point_of b n))) n = drawn ∙ ap (λ o. plotted words o n) (projected ∙ ap (λ q. seen lens (spot lens q)) point) in
     let more : IsFrameBelow (suc n) b (classes b []) (by_class lens) (plotted words (seen lens (spot lens (point_of b n))) n) =
-        plotted_at b lens n words (spot lens (point_of b n)) plain.layout.format counts (omega (arith, counts, few)) (omega (arith, far)) refl frame in
+    plotted_at b lens n words (spot lens (point_of b n)) plain.layout.format counts (omega (arith, counts, few)) (omega (arith, far)) refl frame in
     subst (λ (k : ℕ). IsFrameBelow k b (classes b []) (by_class lens) new) (sym after) (subst (λ l. IsFrameBelow (suc n) b (classes b []) (by_class lens) l) (sym drawn_is) more)
+
+-- the class byte in a record's bytes
+class_byte_read : (b : List ℕ) (i : ℕ) → 20 ≤ record_length b → format_of b ≡ 0 → slice_index (take (record_length b) (drop (record_at b i) b)) 15 ≡ class_byte b i
+unfolding class_byte u8_at
+class_byte_read b i least plain =
+    get_or-take (record_length b) (drop (record_at b i) b) 15 0 (omega arith) ∙ get_or-drop (record_at b i) b 15 0 ∙ ap (λ (format : ℕ). slice_index b (record_at b i + class_place format)) (sym plain)
+
+-- a record's colour by class, from its bytes
+pub colour_read : (b : List ℕ) (i : ℕ) (bytes : List ℕ) → 20 ≤ record_length b → format_of b ≡ 0 → i < record_count b → bytes ≡ take (record_length b) (drop (record_at b i) b)
+    → class_colour (slice_index bytes 15 % 32) ≡ colour b (classes b []) Class i
+unfolding colour
+colour_read b i bytes least plain counts taken =
+    ap class_colour (ap (λ (n : ℕ). n % 32) (ap (λ (l : List ℕ). slice_index l 15) taken ∙ class_byte_read b i least plain) ∙ sym (class_plain b i plain counts))
+
+names_one : (b cs : List ℕ) (view : View) (x y word : ℕ) (o : Option ℕ) → record_in word ≡ o → Shows b cs view x y o → NamesOne b word
+names_one b cs view x y word None is shows = subst (λ (o : Option ℕ). IfSome o (λ i. i < record_count b)) (sym is) tt
+names_one b cs view x y word (Some i) is shows = subst (λ (o : Option ℕ). IfSome o (λ i. i < record_count b)) (sym is) shows.counts
+
+-- each word of a frame is empty or names a record
+pub frame_names_records : (b cs : List ℕ) (view : View) (words : List ℕ) → 1 ≤ view.camera.width → IsFrame b cs view words → NamesNearest b cs view words
+    → (k d : ℕ) → k < length words → NamesOne b (get_or words k d)
+frame_names_records b cs view words wide frame names k d within =
+    let width = view.camera.width in
+    let across : k % width < width = mod-lt k wide in
+    let whole : k / width * width + k % width ≡ k = div-add-mod' k width in
+    let down : k / width < view.camera.height = below_height (k / width) (k % width) width view.camera.height (omega (arith, whole, within, frame.size)) in
+    let here : NamesOne b (get_or words (k / width * width + k % width) 0) = names_one b cs view (k % width) (k / width) _ (record_in (get_or words (k / width * width + k % width) 0)) refl (names (k % width) (k / width) across down) in
+    subst (λ (n : ℕ). NamesOne b n) (ap (λ (n : ℕ). get_or words n 0) whole ∙ get_or_default words k 0 d within) here
+  where
+    below_height : (row column width height : ℕ) → row * width + column < width * height → row < height
+    below_height row column width height lt = elim (cases_lt row height) [ inl below ↦ below | inr least ↦ absurd (let more : height * width ≤ row * width = mul-le-mul_right width least in let turned : height * width ≡ width * height = grind arith in omega (arith, lt, more, turned)) ]

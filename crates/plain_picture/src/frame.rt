@@ -1,8 +1,9 @@
-ghost use Rattle.std.specs.Prelude.{◌≡◌, ◌*◌, ◌+◌, ◌<◌, ◌≤◌, ◌^◌, ◌-◌, IfOk, IfSome, length, replicate, []};
+ghost use Rattle.std.specs.Prelude.{◌≡◌, ◌*◌, ◌+◌, ◌<◌, ◌≤◌, ◌^◌, ◌-◌, IfOk, IfSome, OnOk, length, replicate, []};
 ghost use Rattle.plain_picture.specs.Plotted.{plotted};
 ghost use Rattle.view_meaning.specs.Classes.{classes};
 ghost use Rattle.view_meaning.specs.Frame.{IsFrame, NamesNearest};
 ghost use Rattle.view_meaning.specs.Picture.{by_class};
+ghost use Rattle.view_meaning.specs.Survey.{record_count};
 
 use int_camera::{Camera, Spot, project};
 use las_points::xyz;
@@ -20,6 +21,9 @@ pub(crate) const EMPTY: u64 = u64::MAX;
 pub fn nearest_words(alloc: Global, survey: &Survey, camera: &Camera) -> Result<Words, OutOfMemory>
     ensures words { IfOk result (λ words. IsFrame survey.now (classes survey.now []) (by_class camera.now) words.items) }
     ensures nearest { IfOk result (λ words. NamesNearest survey.now (classes survey.now []) (by_class camera.now) words.items) }
+    // So a record's number fits the lower half of a word, and a depth the upper.
+    ensures few { OnOk result (record_count survey.now ≤ 53687091) }
+    ensures shallow { camera.now.far ≤ 2 ^ 32 - 2 }
 {
     let pixels = camera.width() as usize * camera.height() as usize;
     let mut words = vec![in alloc; EMPTY; pixels]?;
@@ -33,6 +37,7 @@ fn plot_all(words: &mut [u64], survey: &Survey, camera: &Camera)
     requires deepest { camera.now.far ≤ 2 ^ 32 - 2 }
     ensures words { IsFrame survey.now (classes survey.now []) (by_class camera.now) words.new }
     ensures nearest { NamesNearest survey.now (classes survey.now []) (by_class camera.now) words.new }
+    ensures few { record_count survey.now ≤ 53687091 }
 {
     for number in 0..survey.records() {
         let spot = project(camera, xyz(survey.point_bytes(number)));

@@ -2,9 +2,9 @@
 //! keeps the nearest. It is what every faster way of drawing is compared with.
 #![tactic(auto)]
 
-
+mod colours;
+mod drawing;
 mod frame;
 
-
+pub use drawing::picture;
 pub use frame::nearest_words;
-
