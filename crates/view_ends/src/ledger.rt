@@ -1,0 +1,78 @@
+ghost use Rattle.std.specs.Prelude.{◌≡◌, List, ℕ, OnOk};
+ghost use Rattle.view_ends.specs.Ends.{AllStay, OthersStay, NoneForgotten};
+
+use std::alloc::Global;
+use std::collections::BTreeMap;
+use view_base::OutOfMemory;
+
+/// What a desk counted of one name. Each count stands still at the last value of its type.
+#[derive(Clone, Copy, Debug, PartialEq, Eq)]
+pub(crate) struct Counts {
+    pub(crate) read_faults: u64,
+    pub(crate) write_faults: u64,
+    pub(crate) taken: u64,
+    pub(crate) unkept: u64,
+}
+
+const NOTHING: Counts = Counts {
+    read_faults: 0,
+    write_faults: 0,
+    taken: 0,
+    unkept: 0,
+};
+
+/// The counts of each name that was entered. A name that wasn't has all counts 0.
+#[derive(Drop)]
+pub(crate) struct Ledger {
+    alloc: Global,
+    pub(crate) counts: BTreeMap<String, Counts>,
+}
+
+impl Ledger {
+    ghost use Rattle.view_ends.specs.Ledger.{counts_of, nothing_counted, IsEntered};
+
+    /// No name is entered.
+    pub(crate) fn new(alloc: Global) -> Ledger
+        ensures { (name : List ℕ) → counts_of result name ≡ nothing_counted }
+    {
+        Ledger {
+            alloc,
+            counts: BTreeMap::new(alloc),
+        }
+    }
+
+    /// The counts of a name.
+    pub(crate) fn of(&self, name: &str) -> Counts
+        ensures { result ≡ counts_of self.now name.now }
+    {
+        self.counts.get(name).copied().unwrap_or(NOTHING)
+    }
+
+    /// Enters a name, so that its counts can change without memory.
+    #[tactic(auto, using(std::proofs::lemmas::Map::Text::text_keys))]
+    pub(crate) fn enter(&mut self, name: &str) -> Result<(), OutOfMemory>
+        ensures entered { OnOk result (IsEntered self.new name.now) }
+        ensures counts { AllStay (counts_of self.old) (counts_of self.new) }
+        ensures others { NoneForgotten (IsEntered self.old) (IsEntered self.new) }
+    {
+        if self.counts.contains_key(name) {
+            return Ok(());
+        }
+        let key = String::from_str(self.alloc, name)?;
+        self.counts.insert(key, NOTHING)?;
+        Ok(())
+    }
+
+    /// Sets the counts of a name that was entered.
+    #[tactic(auto, using(std::proofs::lemmas::Map::Text::text_keys))]
+    pub(crate) fn set(&mut self, name: &str, counts: Counts)
+        requires { IsEntered self.old name.now }
+        ensures this { counts_of self.new name.now ≡ counts }
+        ensures others { OthersStay (counts_of self.old) (counts_of self.new) name.now }
+        ensures entered { NoneForgotten (IsEntered self.old) (IsEntered self.new) }
+    {
+        if let Some(entry) = self.counts.get_mut(name) {
+            *entry = counts;
+        }
+    }
+}
