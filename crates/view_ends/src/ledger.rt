@@ -1,4 +1,4 @@
-ghost use Rattle.std.specs.Prelude.{◌≡◌, List, ℕ, OnOk};
+ghost use Rattle.std.specs.Prelude.{◌≡◌, ◌+◌, ◌-◌, ◌^◌, ◌<◌, min, List, ℕ, OnOk};
 ghost use Rattle.view_ends.specs.Ends.{AllStay, OthersStay, NoneForgotten};
 
 use std::alloc::Global;
@@ -25,7 +25,7 @@ const NOTHING: Counts = Counts {
 #[derive(Drop)]
 pub(crate) struct Ledger {
     alloc: Global,
-    pub(crate) counts: BTreeMap<String, Counts>,
+    counts: BTreeMap<String, Counts>,
 }
 
 impl Ledger {
@@ -42,7 +42,7 @@ impl Ledger {
     }
 
     /// The counts of a name.
-    pub(crate) fn of(&self, name: &str) -> Counts
+    fn of(&self, name: &str) -> Counts
         ensures { result ≡ counts_of self.now name.now }
     {
         self.counts.get(name).copied().unwrap_or(NOTHING)
@@ -63,9 +63,61 @@ impl Ledger {
         Ok(())
     }
 
+    /// Counts `n` more failed reads of a name that was entered.
+    pub(crate) fn add_read_faults(&mut self, name: &str, n: u64)
+        requires { IsEntered self.old name.now }
+        ensures fits { (counts_of self.old name.now).read_faults < 2 ^ 64 }
+        ensures this { counts_of self.new name.now ≡ record (counts_of self.old name.now) { read_faults = min ((counts_of self.old name.now).read_faults + n) (2 ^ 64 - 1) } }
+        ensures others { OthersStay (counts_of self.old) (counts_of self.new) name.now }
+        ensures entered { NoneForgotten (IsEntered self.old) (IsEntered self.new) }
+    {
+        let mut counts = self.of(name);
+        counts.read_faults = counts.read_faults.saturating_add(n);
+        self.set(name, counts);
+    }
+
+    /// Counts `n` more failed writes of a name that was entered.
+    pub(crate) fn add_write_faults(&mut self, name: &str, n: u64)
+        requires { IsEntered self.old name.now }
+        ensures fits { (counts_of self.old name.now).write_faults < 2 ^ 64 }
+        ensures this { counts_of self.new name.now ≡ record (counts_of self.old name.now) { write_faults = min ((counts_of self.old name.now).write_faults + n) (2 ^ 64 - 1) } }
+        ensures others { OthersStay (counts_of self.old) (counts_of self.new) name.now }
+        ensures entered { NoneForgotten (IsEntered self.old) (IsEntered self.new) }
+    {
+        let mut counts = self.of(name);
+        counts.write_faults = counts.write_faults.saturating_add(n);
+        self.set(name, counts);
+    }
+
+    /// Counts `n` more bytes taken from a name that was entered.
+    pub(crate) fn add_taken(&mut self, name: &str, n: u64)
+        requires { IsEntered self.old name.now }
+        ensures fits { (counts_of self.old name.now).taken < 2 ^ 64 }
+        ensures this { counts_of self.new name.now ≡ record (counts_of self.old name.now) { taken = min ((counts_of self.old name.now).taken + n) (2 ^ 64 - 1) } }
+        ensures others { OthersStay (counts_of self.old) (counts_of self.new) name.now }
+        ensures entered { NoneForgotten (IsEntered self.old) (IsEntered self.new) }
+    {
+        let mut counts = self.of(name);
+        counts.taken = counts.taken.saturating_add(n);
+        self.set(name, counts);
+    }
+
+    /// Counts one more refusal to keep a name that was entered.
+    pub(crate) fn add_unkept(&mut self, name: &str)
+        requires { IsEntered self.old name.now }
+        ensures fits { (counts_of self.old name.now).unkept < 2 ^ 64 }
+        ensures this { counts_of self.new name.now ≡ record (counts_of self.old name.now) { unkept = min ((counts_of self.old name.now).unkept + 1) (2 ^ 64 - 1) } }
+        ensures others { OthersStay (counts_of self.old) (counts_of self.new) name.now }
+        ensures entered { NoneForgotten (IsEntered self.old) (IsEntered self.new) }
+    {
+        let mut counts = self.of(name);
+        counts.unkept = counts.unkept.saturating_add(1);
+        self.set(name, counts);
+    }
+
     /// Sets the counts of a name that was entered.
     #[tactic(auto, using(std::proofs::lemmas::Map::Text::text_keys))]
-    pub(crate) fn set(&mut self, name: &str, counts: Counts)
+    fn set(&mut self, name: &str, counts: Counts)
         requires { IsEntered self.old name.now }
         ensures this { counts_of self.new name.now ≡ counts }
         ensures others { OthersStay (counts_of self.old) (counts_of self.new) name.now }

@@ -102,9 +102,7 @@ impl Desk for StillDesk {
     }
 
     fn shut(&mut self, name: &str, input: StillSource) {
-        let mut counts = self.ledger.of(name);
-        counts.taken = counts.taken.saturating_add(input.taken());
-        self.ledger.set(name, counts);
+        self.ledger.add_taken(name, input.taken());
     }
 
     fn open_out(&mut self, name: &str) -> Result<StillSink, EndFault> {
@@ -119,9 +117,8 @@ impl Desk for StillDesk {
             *bytes = out.into_bytes();
             return Ok(());
         }
-        let mut counts = self.ledger.of(name);
-        counts.unkept = counts.unkept.saturating_add(1);
-        self.ledger.set(name, counts);
+        // Only a name whose opening was refused has no file by now.
+        self.ledger.add_unkept(name);
         Err(EndFault::Memory)
     }
 }
