@@ -1,26 +1,25 @@
-ghost use Rattle.std.specs.Prelude.{◌≡◌, ℕ, List, Some, None, true, OnOk, OnErr, MatchOption, IfOk};
+ghost use Rattle.std.specs.Prelude.{◌≡◌, ℕ, List, Some, None, true, OnOk, OnErr, MatchOption};
 ghost use Rattle.view_ends.specs.Ends.{AllStay, OthersStay, NoneForgotten};
 
 use crate::desk::Desk;
 use crate::fault::EndFault;
+use crate::files::Files;
 use crate::ledger::Ledger;
 use crate::still_sink::StillSink;
 use crate::still_source::StillSource;
 use std::alloc::Global;
-use std::collections::BTreeMap;
 use view_base::{Bytes, OutOfMemory};
 
-/// Files by name in memory, which never fail: what is refused is refused for want of memory.
+/// Files by name in memory, which never fail: what is refused is refused for want of memory, and
+/// so is the opening of a name that has no file.
 #[derive(Drop)]
 pub struct StillDesk {
     alloc: Global,
-    files: BTreeMap<String, Bytes>,
+    files: Files,
     ledger: Ledger,
 }
 
 impl StillDesk {
-    ghost use Rattle.view_ends.specs.Files.{bytes_of};
-
     /// A desk without files.
     pub fn new(alloc: Global) -> StillDesk
         ensures files { (name : List ℕ) → ⟦<StillDesk as Desk>⟧.file result name ≡ None }
@@ -29,13 +28,12 @@ impl StillDesk {
     {
         StillDesk {
             alloc,
-            files: BTreeMap::new(alloc),
+            files: Files::new(alloc),
             ledger: Ledger::new(alloc),
         }
     }
 
     /// Puts a file on the desk, in place of one of this name. After an `Err` no file changed.
-    #[tactic(auto, using(std::proofs::lemmas::Map::Text::text_keys))]
     pub fn put(&mut self, name: &str, bytes: Bytes) -> Result<(), OutOfMemory>
         ensures put { OnOk result (⟦<StillDesk as Desk>⟧.file self.new name.now ≡ Some bytes.items) }
         ensures others { OthersStay (⟦<StillDesk as Desk>⟧.file self.old) (⟦<StillDesk as Desk>⟧.file self.new) name.now }
@@ -44,46 +42,27 @@ impl StillDesk {
         ensures unkept { AllStay (⟦<StillDesk as Desk>⟧.unkept self.old) (⟦<StillDesk as Desk>⟧.unkept self.new) }
         ensures known { NoneForgotten (⟦<StillDesk as Desk>⟧.known self.old) (⟦<StillDesk as Desk>⟧.known self.new) }
     {
-        let key = String::from_str(self.alloc, name)?;
-        self.files.insert(key, bytes)?;
-        Ok(())
+        self.files.put(name, bytes)
     }
 
     /// The bytes of a file, and `None` where there is no such file.
     pub fn bytes_of(&self, name: &str) -> Option<&[u8]>
         ensures { MatchOption result (⟦<StillDesk as Desk>⟧.file self.now name.now ≡ None) (λ bytes. ⟦<StillDesk as Desk>⟧.file self.now name.now ≡ Some bytes.now) }
     {
-        match self.files.get(name) {
-            Some(bytes) => Some(bytes.as_slice()),
-            None => None,
-        }
-    }
-
-    /// A copy of the bytes of a file, or want of memory, which is the answer for a name that has
-    /// no file too.
-    fn copy_of(&self, name: &str) -> Result<Bytes, OutOfMemory>
-        ensures { IfOk result (λ copy. ⟦<StillDesk as Desk>⟧.file self.now name.now ≡ Some copy.items) }
-    {
-        let Some(bytes) = self.bytes_of(name) else {
-            return Err(OutOfMemory);
-        };
-        let mut copy = Bytes::new(self.alloc);
-        copy.append(bytes)?;
-        Ok(copy)
+        self.files.get(name)
     }
 }
 
 impl Desk for StillDesk {
-    ghost use Rattle.view_ends.specs.Files.{bytes_of};
+    ghost use Rattle.view_ends.specs.Files.{file_of};
     ghost use Rattle.view_ends.specs.Ledger.{counts_of, IsEntered};
 
     type In = StillSource;
-
     type Out = StillSink;
 
     ghost tells = { true };
 
-    ghost file = { λ d name. bytes_of d.files name };
+    ghost file = { λ d name. file_of d.files name };
 
     ghost read_faults = { λ _ _. 0 };
 
@@ -96,7 +75,7 @@ impl Desk for StillDesk {
     ghost known = { λ d name. IsEntered d.ledger name };
 
     fn open_in(&mut self, name: &str) -> Result<StillSource, EndFault> {
-        let bytes = self.copy_of(name)?;
+        let bytes = self.files.copy_of(name)?;
         self.ledger.enter(name)?;
         Ok(StillSource::new(bytes))
     }
@@ -107,18 +86,16 @@ impl Desk for StillDesk {
 
     fn open_out(&mut self, name: &str) -> Result<StillSink, EndFault> {
         self.ledger.enter(name)?;
-        self.put(name, Bytes::new(self.alloc))?;
+        self.files.put(name, Bytes::new(self.alloc))?;
         Ok(StillSink::new(self.alloc))
     }
 
-    #[tactic(auto, using(std::proofs::lemmas::Map::Text::text_keys))]
     fn keep(&mut self, name: &str, out: StillSink) -> Result<(), EndFault> {
-        if let Some(bytes) = self.files.get_mut(name) {
-            *bytes = out.into_bytes();
-            return Ok(());
-        }
         // Only a name whose opening was refused has no file by now.
-        self.ledger.add_unkept(name);
-        Err(EndFault::Memory)
+        if self.files.replace(name, out.into_bytes()).is_err() {
+            self.ledger.add_unkept(name);
+            return Err(EndFault::Memory);
+        }
+        Ok(())
     }
 }
