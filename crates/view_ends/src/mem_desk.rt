@@ -79,6 +79,7 @@ impl Desk for MemDesk {
     ghost use Rattle.view_ends.specs.Ledger.{counts_of, IsEntered};
 
     type In = MemSource;
+
     type Out = MemSink;
 
     ghost tells = { true };

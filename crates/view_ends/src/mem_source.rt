@@ -58,6 +58,7 @@ impl Source for MemSource {
             return Err(Failed);
         }
         let most = self.failing.room(at, buf.len());
-        self.still.take(&mut buf[..most])
+        let n = self.still.take(&mut buf[..most])?;
+        Ok(n)
     }
 }

@@ -58,6 +58,7 @@ impl Desk for StillDesk {
     ghost use Rattle.view_ends.specs.Ledger.{counts_of, IsEntered};
 
     type In = StillSource;
+
     type Out = StillSink;
 
     ghost tells = { true };
