@@ -142,3 +142,59 @@ where
         Ok(())
     }
 }
+
+#[cfg(test)]
+mod tests {
+    use super::*;
+    use crate::giving::give_all;
+    use crate::source::Source;
+    use std::alloc::Global;
+    use std::test::Fail;
+    use std::{env, process};
+
+    fn scratch(rt: HostRuntime, what: &str) -> Result<String, Fail> {
+        let dir = env::temp_dir(&rt)?;
+        let dir = dir.as_str();
+        let id = process::id(rt.process());
+        let alloc: Global = rt.alloc();
+        Ok(format!(in alloc; "{dir}/view_ends_{id}_{what}")?)
+    }
+
+    #[test]
+    fn what_was_kept_is_taken_again(rt: HostRuntime) -> Result<(), Fail> {
+        let name = scratch(rt, "kept")?;
+        let mut desk = HostDesk::new(rt, rt.alloc());
+        let mut out = desk.open_out(name.as_str())?;
+        give_all(&mut out, b"a dozen bytes")?;
+        desk.keep(name.as_str(), out)?;
+        let mut input = desk.open_in(name.as_str())?;
+        let mut buf = [0; 16];
+        let n = input.take(&mut buf)?;
+        assert_eq!(rt; &buf[..n], b"a dozen bytes".as_slice());
+        assert_eq!(rt; input.take(&mut buf)?, 0);
+        desk.shut(name.as_str(), input);
+        fs::remove_file(&rt, name.as_str())?;
+        Ok(())
+    }
+
+    #[test]
+    fn a_name_below_no_folder_fails(rt: HostRuntime) -> Result<(), Fail> {
+        let name = scratch(rt, "none/file")?;
+        let mut desk = HostDesk::new(rt, rt.alloc());
+        assert_eq!(rt; desk.open_in(name.as_str()).err(), Some(EndFault::Failed));
+        assert_eq!(rt; desk.open_out(name.as_str()).err(), Some(EndFault::Failed));
+        Ok(())
+    }
+
+    #[test]
+    fn each_standard_stream_opens_once(rt: HostRuntime) -> Result<(), Fail> {
+        let mut desk = HostDesk::new(rt, rt.alloc());
+        let input = desk.open_in("-")?;
+        assert_eq!(rt; desk.open_in("-").err(), Some(EndFault::Failed));
+        desk.shut("-", input);
+        let out = desk.open_out("-")?;
+        assert_eq!(rt; desk.open_out("-").err(), Some(EndFault::Failed));
+        desk.keep("-", out)?;
+        Ok(())
+    }
+}

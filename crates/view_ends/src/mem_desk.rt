@@ -140,3 +140,73 @@ impl Desk for MemDesk {
         Ok(())
     }
 }
+
+#[cfg(test)]
+mod tests {
+    use super::*;
+    use crate::giving::give_all;
+    use crate::source::Source;
+    use std::test::Fail;
+
+    fn copy<D: Desk>(desk: &mut D, from: &str, to: &str) -> Result<(), EndFault> {
+        let mut input = desk.open_in(from)?;
+        let mut buf = [0; 8];
+        let taken = input.take(&mut buf);
+        desk.shut(from, input);
+        let Ok(n) = taken else {
+            return Err(EndFault::Failed);
+        };
+        let mut out = desk.open_out(to)?;
+        let given = give_all(&mut out, &buf[..n]);
+        desk.keep(to, out)?;
+        given
+    }
+
+    #[test]
+    fn each_call_fails_once(rt: HostRuntime) -> Result<(), Fail> {
+        let cases = [
+            (DeskCall::OpenIn, "a", None),
+            (DeskCall::Take, "a", None),
+            (DeskCall::OpenOut, "b", None),
+            (DeskCall::Give, "b", Some("")),
+            (DeskCall::Keep, "b", Some("")),
+        ];
+        for (call, name, left) in cases {
+            let mut desk = MemDesk::new(rt.alloc());
+            let mut bytes = Bytes::new(rt.alloc());
+            bytes.append(b"bytes")?;
+            desk.put("a", bytes)?;
+            desk.fail(name, call, 0)?;
+            assert_eq!(rt;
+                copy(&mut desk, "a", "b"),
+                Err(EndFault::Failed),
+                "at {call:?}"
+            );
+            assert_eq!(rt;
+                desk.bytes_of("b"),
+                left.map(|text| text.as_bytes()),
+                "at {call:?}"
+            );
+            assert_eq!(rt; copy(&mut desk, "a", "b"), Ok(()), "after {call:?}");
+            assert_eq!(rt;
+                desk.bytes_of("b"),
+                Some(b"bytes".as_slice()),
+                "after {call:?}"
+            );
+        }
+        Ok(())
+    }
+
+    #[test]
+    fn a_give_stops_at_the_place_that_fails(rt: HostRuntime) -> Result<(), Fail> {
+        let mut desk = MemDesk::new(rt.alloc());
+        assert_eq!(rt; copy(&mut desk, "a", "b"), Err(EndFault::Failed));
+        let mut bytes = Bytes::new(rt.alloc());
+        bytes.append(b"bytes")?;
+        desk.put("a", bytes)?;
+        desk.fail("b", DeskCall::Give, 3)?;
+        assert_eq!(rt; copy(&mut desk, "a", "b"), Err(EndFault::Failed));
+        assert_eq!(rt; desk.bytes_of("b"), Some(b"byt".as_slice()));
+        Ok(())
+    }
+}

@@ -100,3 +100,28 @@ impl Desk for StillDesk {
         Ok(())
     }
 }
+
+#[cfg(test)]
+mod tests {
+    use super::*;
+    use crate::sink::Sink;
+    use crate::source::Source;
+    use std::test::Fail;
+
+    #[test]
+    fn what_was_kept_is_taken_again(rt: HostRuntime) -> Result<(), Fail> {
+        let mut desk = StillDesk::new(rt.alloc());
+        desk.put("a", Bytes::new(rt.alloc()))?;
+        let mut out = desk.open_out("b")?;
+        assert_eq!(rt; out.give(b"bytes")?, 5);
+        desk.keep("b", out)?;
+        let mut input = desk.open_in("b")?;
+        let mut buf = [0; 8];
+        assert_eq!(rt; input.take(&mut buf)?, 5);
+        assert_eq!(rt; &buf[..5], b"bytes".as_slice());
+        desk.shut("b", input);
+        assert_eq!(rt; desk.bytes_of("a"), Some(b"".as_slice()));
+        assert_eq!(rt; desk.bytes_of("c"), None);
+        Ok(())
+    }
+}
