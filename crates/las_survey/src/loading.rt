@@ -1,0 +1,92 @@
+ghost use Rattle.std.specs.Prelude.{◌≡◌, ℕ, ◌+◌, ◌≤◌, ◌<◌, List, length, IfOk, IfSome, IsErrOf};
+ghost use Rattle.las_survey.specs.Loading.{TookAll};
+ghost use Rattle.view_ends.specs.Ends.{Rose};
+ghost use Rattle.view_meaning.specs.Survey.{IsPlain};
+
+use crate::plain::is_plain;
+use crate::survey::Survey;
+use std::alloc::Global;
+use view_base::{Bytes, OutOfMemory};
+use view_ends::{Failed, Source};
+
+/// The most bytes that a survey may have.
+pub const LIMIT: usize = 1 << 30;
+
+/// How many bytes are asked of a source at once.
+const PIECE: usize = 1 << 16;
+
+/// Why no survey was loaded.
+#[derive(Clone, Copy, Debug, PartialEq, Eq)]
+pub enum LoadFault {
+    /// The source failed.
+    ReadFault,
+    /// There are more than 2^30 bytes.
+    TooLong,
+    /// Want of memory.
+    Memory,
+    /// The bytes are no plain survey.
+    NotYet,
+}
+
+impl From<OutOfMemory> for LoadFault {
+    ghost use Rattle.std.specs.Prelude.{◌≡◌};
+    ghost use Rattle.las_survey.specs.declared.loading.LoadFault.TheVariants.{Memory};
+
+    ghost from_gives = { λ _ fault. fault ≡ Memory };
+
+    fn from(_: OutOfMemory) -> Self {
+        LoadFault::Memory
+    }
+}
+
+/// Takes all bytes of a source, and answers the survey that they are. It asks for no byte past
+/// the one that makes a survey too long.
+pub fn load<S: Source>(alloc: Global, source: &mut S) -> Result<Survey, LoadFault>
+    ensures took { IfOk result (λ survey. TookAll (S.left source.old) (S.taken source.old) survey (S.left source.new) (S.taken source.new)) }
+    ensures plain { IfOk result IsPlain }
+
+    ensures read_fault { IsErrOf result LoadFault.ReadFault → Rose (S.faults source.old) (S.faults source.new) }
+    ensures too_long { IsErrOf result LoadFault.TooLong → S.taken source.new ≡ S.taken source.old + (LIMIT + 1) }
+    ensures too_many { IsErrOf result LoadFault.TooLong → IfSome (S.left source.old) (λ all. LIMIT < length all) }
+    ensures not_yet { IsErrOf result LoadFault.NotYet → (bytes : List ℕ) × (length bytes ≤ LIMIT) × TookAll (S.left source.old) (S.taken source.old) bytes (S.left source.new) (S.taken source.new) × (IsPlain bytes → ⊥) }
+    ensures calm { (IsErrOf result LoadFault.ReadFault → ⊥) → S.faults source.new ≡ S.faults source.old }
+    ensures later { S.faults source.old ≤ S.faults source.new }
+    ensures few { S.taken source.new ≤ S.taken source.old + (LIMIT + 1) }
+{
+    let bytes = taken_from(alloc, source)?;
+    if is_plain(bytes.as_slice()) {
+        Ok(Survey::of(bytes))
+    } else {
+        Err(LoadFault::NotYet)
+    }
+}
+
+/// All bytes of a source, where they are few enough.
+fn taken_from<S: Source>(alloc: Global, source: &mut S) -> Result<Bytes, LoadFault>
+    ensures took { IfOk result (λ bytes. TookAll (S.left source.old) (S.taken source.old) bytes.items (S.left source.new) (S.taken source.new)) }
+    ensures short { IfOk result (λ bytes. length bytes.items ≤ LIMIT) }
+
+    ensures read_fault { IsErrOf result LoadFault.ReadFault → Rose (S.faults source.old) (S.faults source.new) }
+    ensures too_long { IsErrOf result LoadFault.TooLong → S.taken source.new ≡ S.taken source.old + (LIMIT + 1) }
+    ensures too_many { IsErrOf result LoadFault.TooLong → IfSome (S.left source.old) (λ all. LIMIT < length all) }
+    ensures not_yet { IsErrOf result LoadFault.NotYet → ⊥ }
+    ensures calm { (IsErrOf result LoadFault.ReadFault → ⊥) → S.faults source.new ≡ S.faults source.old }
+    ensures later { S.faults source.old ≤ S.faults source.new }
+    ensures few { S.taken source.new ≤ S.taken source.old + (LIMIT + 1) }
+{
+    let mut bytes = Bytes::new(alloc);
+    let mut piece = [0u8; PIECE];
+    loop {
+        let room = (LIMIT + 1 - bytes.len()).min(PIECE);
+        match source.take(&mut piece[..room]) {
+            Err(Failed) => return Err(LoadFault::ReadFault),
+            Ok(0) => return Ok(bytes),
+            Ok(n) => {
+                if bytes.len() + n > LIMIT {
+                    return Err(LoadFault::TooLong);
+                }
+                bytes.append(&piece[..n])?;
+            }
+        }
+    }
+}

@@ -1,0 +1,4 @@
+pub mod Survey
+pub mod Classes
+pub mod Camera
+pub mod Picture
