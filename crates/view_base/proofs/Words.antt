@@ -1,11 +1,11 @@
 -- The words of a line, one byte and one word at a time.
 use Rattle.std.proofs.Common.{◌≡◌, ℕ, suc, ◌+◌, ◌-◌, ◌<◌, ◌≤◌, Bool, true, false, ltb, not, Option, Some, None, List, [], ◌∷◌, length, get_or, take, drop, slice_range, refl, sym, ◌∙◌, inl, inr, arith, length-drop, get_or-drop, drop-drop}
-use Rattle.std.specs.List.{AllPass, position, position_or_len}
+use Rattle.std.specs.List.{AllPass, position, position_or_len, slice_split}
 use Rattle.std.proofs.lemmas.Bool.{cases_Bool, not-false, not-true, true≢false, lt-ltb, ltb-false, cases_eq}
 use Rattle.std.proofs.lemmas.List.{drop_all, length-take, take_rest}
 use Rattle.std.proofs.lemmas.List.Sums.{fails_before_first, passes_at_first, position_or_len_is, prefix_len-le-length}
 use Rattle.std.proofs.lemmas.List.Quantifiers.{position-Some}
-use Rattle.view_base.specs.Text.{is_blank, pieces, words, IsNextWord}
+use Rattle.view_base.specs.Text.{is_blank, words, IsNextWord}
 
 pub words-nil : words [] ≡ []
 unfolding words
@@ -19,12 +19,12 @@ one_and : (n : ℕ) → 1 + n ≡ suc n
 one_and n = omega arith
 
 -- a text is its first piece and, after the separator, its other pieces
-pub pieces-first : (separates : ℕ → Bool) (cs : List ℕ) → (others : List (List ℕ)) × (pieces separates cs ≡ take (position_or_len separates cs) cs ∷ others) × (pieces separates (drop (position_or_len separates cs) cs) ≡ [] ∷ others)
-pieces-first separates [] = ([], refl, refl)
-pieces-first separates (c ∷ cs) =
-    let more = pieces-first separates cs in
+pub slice_split-first : (separates : ℕ → Bool) (cs : List ℕ) → (others : List (List ℕ)) × (slice_split separates cs ≡ take (position_or_len separates cs) cs ∷ others) × (slice_split separates (drop (position_or_len separates cs) cs) ≡ [] ∷ others)
+slice_split-first separates [] = ([], refl, refl)
+slice_split-first separates (c ∷ cs) =
+    let more = slice_split-first separates cs in
     elim (cases_Bool (separates c)) [
-      | inl here ↦ (pieces separates cs, rw here refl, rw (here, here) refl)
+      | inl here ↦ (slice_split separates cs, rw here refl, rw (here, here) refl)
       | inr on ↦ (more.0, rw (on, one_and, more.1) refl, rw (on, one_and) more.2)
     ]
 
@@ -41,7 +41,7 @@ words-drop_blanks (c ∷ cs) =
 pub words-first : (cs : List ℕ) → 0 < position_or_len is_blank cs → words cs ≡ take (position_or_len is_blank cs) cs ∷ words (drop (position_or_len is_blank cs) cs)
 unfolding words
 words-first cs some =
-    let all = pieces-first is_blank cs in
+    let all = slice_split-first is_blank cs in
     let long : ltb 0 (length (take (position_or_len is_blank cs) cs)) ≡ true = lt-ltb 0 _ (omega (arith, length-take (position_or_len is_blank cs) cs, prefix_len-le-length (λ c. not (is_blank c)) cs)) in
     rw (all.1, all.2) (rw long refl)
 

@@ -2,26 +2,16 @@
 use Rattle.std.specs.Prelude.{ℕ, ℤ, pos, neg_ℤ, Bool, ◌&&◌, ◌||◌, ◌==◌, ◌<◌, ◌≤◌, IsTrue, IsFalse, slice_index, nat_lt, nat_le, List, [], ◌∷◌, length, filter, Option, Some, None, if◌then◌else◌}
 use Rattle.std.specs.Option.{option_map}
 use Rattle.std.specs.Char.{is_ascii_digit}
-use Rattle.std.specs.List.{list_all}
+use Rattle.std.specs.List.{list_all, slice_split}
 use Rattle.std.specs.Str.Parse.{digits_value}
 
 -- a blank: a space or a tab
 abbrev pub is_blank : ℕ → Bool
 is_blank c = c == 32 || c == 9
 
--- the pieces with one more byte at the front of the first
-abbrev pub onto_first : ℕ → List (List ℕ) → List (List ℕ)
-onto_first c [] = (c ∷ []) ∷ []
-onto_first c (p ∷ ps) = (c ∷ p) ∷ ps
-
--- the pieces of a text between its separators, in order, the empty ones too
-abbrev pub pieces : (ℕ → Bool) → List ℕ → List (List ℕ)
-pieces separates [] = [] ∷ []
-pieces separates (c ∷ cs) = if separates c then [] ∷ pieces separates cs else onto_first c (pieces separates cs)
-
--- the words of a line in order: its pieces between blanks that are not empty
+-- the words of a line in order: the pieces between its blanks that are not empty
 unfoldable pub words : List ℕ → List (List ℕ)
-words line = filter (λ piece. nat_lt 0 (length piece)) (pieces is_blank line)
+words line = filter (λ piece. nat_lt 0 (length piece)) (slice_split is_blank line)
 
 -- the value of 1 to 20 decimal digits, or none where the text is anything else
 unfoldable pub digits : List ℕ → Option ℕ
