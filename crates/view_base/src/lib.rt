@@ -6,11 +6,13 @@ mod colour;
 mod listing;
 mod memory;
 mod place;
+mod text;
 
 pub use colour::{Colouring, Rgb};
 pub use listing::{Bytes, Listing, Words};
 pub use memory::OutOfMemory;
 pub use place::{Box3, Point};
+pub use text::{next_word, read_digits, read_number};
 
 /// The number of edits that a state of the classes has behind it: version 0 is the file's own.
 pub type Version = u64;
