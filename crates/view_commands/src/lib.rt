@@ -2,5 +2,10 @@
 //! written, and the status that each ends with.
 #![tactic(auto)]
 
+mod drawing;
 mod files;
+mod status;
 mod words;
+
+pub use drawing::draw;
+pub use status::{Status, code};
