@@ -18,10 +18,10 @@ not_all ws i within none all = let no : IsSome {T = ℤ} None = subst (λ (o : O
 -- one more number
 pub reads_more : (ws : List (List ℕ)) (i : ℕ) (ns : List ℤ) (z : ℤ) → i < length ns → number (text ws (5 + i)) ≡ Some z → Reads ws i ns → Reads ws (i + 1) (set ns i z)
 reads_more ws i ns z within is so_far = λ k lt. elim (cases_lt k i) [
-    inl below ↦ let other : k ≢ i = omega arith in so_far k below ∙ ap (λ (z : ℤ). Some z) (sym (get_or-set_other ns i k z (pos 0) other))
+  | inl below ↦ let other : k ≢ i = omega arith in so_far k below ∙ ap (λ (z : ℤ). Some z) (sym (get_or-set_other ns i k z (pos 0) other))
   | inr least ↦ let same : k ≡ i = omega arith in
       ap (λ (k : ℕ). number (text ws (5 + k))) same ∙ is ∙ ap (λ (z : ℤ). Some z) (sym (ap (λ (k : ℕ). get_or (set ns i z) k (pos 0)) same ∙ get_or-set_same ns i z (pos 0) within))
-  ]
+]
 
 is_some : (o : Option ℤ) (z : ℤ) → o ≡ Some z → IsSome o
 is_some o z is = subst (λ (o : Option ℤ). IsSome o) (sym is) refl
@@ -29,7 +29,9 @@ is_some o z is = subst (λ (o : Option ℤ). IsSome o) (sym is) refl
 -- all eighteen numbers
 pub reads_all : (ws : List (List ℕ)) (ns : List ℤ) → length ns ≡ 18 → Reads ws 18 ns → AreNumbers ws × (ns ≡ camera_numbers ws)
 unfolding camera_numbers
-reads_all ws ns size reads = (λ k within. is_some (number (text ws (5 + k))) (get_or ns k (pos 0)) (reads k within),
-    ext_get_or (pos 0) ns (camera_numbers ws) (size ∙ sym (length-map-range_with_len (λ k. unwrap_or (number (text ws k)) (pos 0)) 5 18))
+reads_all ws ns size reads = (
+  λ k within. is_some (number (text ws (5 + k))) (get_or ns k (pos 0)) (reads k within),
+  ext_get_or (pos 0) ns (camera_numbers ws) (size ∙ sym (length-map-range_with_len (λ k. unwrap_or (number (text ws k)) (pos 0)) 5 18))
       (λ k within. sym (get_or-map-range_with_len (λ k. unwrap_or (number (text ws k)) (pos 0)) 5 18 k (5 + k) (pos 0) (omega (arith, within, size)) refl
-        ∙ ap (λ (o : Option ℤ). unwrap_or o (pos 0)) (reads k (omega (arith, within, size))))))
+      ∙ ap (λ (o : Option ℤ). unwrap_or o (pos 0)) (reads k (omega (arith, within, size))))),
+)

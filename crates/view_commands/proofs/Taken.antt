@@ -18,7 +18,7 @@ pub taken_to_the_end : (old new : Said) (name bytes : List ℕ) (left after : Op
 taken_to_the_end old new name bytes left after before taken few took fresh opened counted = record {
   few = few;
   counted = let e : taken ≡ length bytes = omega (arith, took.took.counted) in subst (λ (n : ℕ). RoseBy n (old.taken name) (new.taken name)) e counted;
-  all = subst (λ o. IfSome o (λ file. file ≡ bytes)) opened (all_of left after bytes took.took.came took.ended)
+  all = subst (λ o. IfSome o (λ file. file ≡ bytes)) opened (all_of left after bytes took.took.came took.ended);
 }
 
 front_of : (got after : Option (List ℕ)) (bytes : List ℕ) → got ≡ Some [] → GainsPart got bytes after → (k : ℕ) × (after ≡ Some (take k bytes))

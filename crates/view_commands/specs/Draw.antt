@@ -47,7 +47,6 @@ pub record Draws (tells : Bool) (old new : Said) (survey out : List ℕ) (lens :
       → AllStay old.file new.file ⊎ ((b : List ℕ) × (old.file survey ≡ Some b) × HoldsFront new out (drawn b lens))
   pub untouched : ended ≢ Done → ended ≢ WriteFault 2 → ended ≢ Memory → AllStay old.file new.file
   pub others : OthersStay old.file new.file out
-
   -- the cause of each refusal
   pub limit : (limit : CameraLimit) → ended ≢ Limit limit
   pub open_fault : (at : ℕ) → ended ≡ OpenFault at
@@ -56,7 +55,6 @@ pub record Draws (tells : Bool) (old new : Said) (survey out : List ℕ) (lens :
   pub too_long : ended ≡ TooLong → RoseBy (LIMIT + 1) (old.taken survey) (new.taken survey)
   pub not_yet : ended ≡ NotYet → (b : List ℕ) × TakenToTheEnd old new survey b × (IsPlain b → ⊥)
   pub write_fault : (at : ℕ) → ended ≡ WriteFault at → (at ≡ 2) × Rose (old.writes out) (new.writes out)
-
   -- and how it ends where nothing outside failed
   pub settled : IsTrue tells → (b : List ℕ) → old.file survey ≡ Some b → (Rose (old.reads survey) (new.reads survey) → ⊥)
       → (Rose (old.writes out) (new.writes out) → ⊥) → Ends b ended

@@ -20,13 +20,11 @@ pub record ReadsSurvey (tells : Bool) (old new : Said) (name : List ℕ) (result
   pub bytes : IfOk result (λ b. TakenToTheEnd old new name b)
   pub there : IsTrue tells → OnOk result (IsSome (old.file name))
   pub plain : IfOk result IsPlain
-
   pub open_fault : IsErrOf result survey.Open → Rose (old.reads name) (new.reads name)
   pub read_fault : IsErrOf result survey.Read → Rose (old.reads name) (new.reads name)
   pub too_long : IsErrOf result survey.TooLong → RoseBy (LIMIT + 1) (old.taken name) (new.taken name)
   pub too_many : IsErrOf result survey.TooLong → IfSome (old.file name) (λ b. LIMIT < length b)
   pub not_yet : IsErrOf result survey.NotYet → (b : List ℕ) × TakenToTheEnd old new name b × (IsPlain b → ⊥)
-
   pub files : AllStay old.file new.file
   pub writes : AllStay old.writes new.writes
   pub unkept : AllStay old.unkept new.unkept
@@ -46,7 +44,6 @@ pub record Writes (tells : Bool) (old new : Said) (name bytes : List ℕ) (resul
   pub write_fault : IsErrOf result write.Write → Rose (old.writes name) (new.writes name)
   pub front : IsErrOf result write.Write → IsTrue tells → (Rose (old.unkept name) (new.unkept name) → ⊥) → HoldsFront new name bytes
   pub memory : IsErrOf result write.Memory → IsTrue tells → (Rose (old.unkept name) (new.unkept name) → ⊥) → AllStay old.file new.file ⊎ HoldsFront new name bytes
-
   pub files : OthersStay old.file new.file name
   pub writes : OthersStay old.writes new.writes name
   pub later : NoneFalls old.writes new.writes

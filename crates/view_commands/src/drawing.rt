@@ -21,13 +21,21 @@ const OUT: u32 = 2;
 ///
 /// The picture is whole in memory before its file is opened, so no refusal before that touches a
 /// file. Whoever watches is told nothing yet: there are no workers.
-pub fn draw<D: Desk, B: Beside>(alloc: Global, words: &[String], desk: &mut D, _beside: &B) -> Status
+pub fn draw<D: Desk, B: Beside>(
+    alloc: Global,
+    words: &[String],
+    desk: &mut D,
+    _beside: &B,
+) -> Status
     ensures { Answers D.tells (record { file = D.file desk.old; reads = D.read_faults desk.old; writes = D.write_faults desk.old; taken = D.taken desk.old; unkept = D.unkept desk.old }) (record { file = D.file desk.new; reads = D.read_faults desk.new; writes = D.write_faults desk.new; taken = D.taken desk.new; unkept = D.unkept desk.new }) (texts words.now) result }
 {
     let Some(n) = draw_numbers(words) else {
         return Status::NotYet;
     };
-    match Camera::new(&CameraNumbers { kind: Kind::Ortho, n }) {
+    match Camera::new(&CameraNumbers {
+        kind: Kind::Ortho,
+        n,
+    }) {
         Ok(camera) => draw_file(alloc, text_at(words, 1), text_at(words, 2), &camera, desk),
         Err(limit) => Status::Limit(limit),
     }
@@ -48,7 +56,13 @@ fn draw_file<D: Desk>(alloc: Global, name: &str, out: &str, camera: &Camera, des
 }
 
 /// Draws a survey into a file.
-fn draw_survey<D: Desk>(alloc: Global, survey: &Survey, out: &str, camera: &Camera, desk: &mut D) -> Status
+fn draw_survey<D: Desk>(
+    alloc: Global,
+    survey: &Survey,
+    out: &str,
+    camera: &Camera,
+    desk: &mut D,
+) -> Status
     ensures { WritesPicture D.tells (record { file = D.file desk.old; reads = D.read_faults desk.old; writes = D.write_faults desk.old; taken = D.taken desk.old; unkept = D.unkept desk.old }) (record { file = D.file desk.new; reads = D.read_faults desk.new; writes = D.write_faults desk.new; taken = D.taken desk.new; unkept = D.unkept desk.new }) out.now (drawn survey.now camera.now) result }
 {
     let mut bytes = Bytes::new(alloc);

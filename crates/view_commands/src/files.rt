@@ -31,7 +31,11 @@ pub(crate) enum WriteRefusal {
 }
 
 /// The survey in a file. The input is shut before the answer.
-pub(crate) fn read_survey<D: Desk>(alloc: Global, desk: &mut D, name: &str) -> Result<Survey, SurveyRefusal>
+pub(crate) fn read_survey<D: Desk>(
+    alloc: Global,
+    desk: &mut D,
+    name: &str,
+) -> Result<Survey, SurveyRefusal>
     ensures { ReadsSurvey D.tells (record { file = D.file desk.old; reads = D.read_faults desk.old; writes = D.write_faults desk.old; taken = D.taken desk.old; unkept = D.unkept desk.old }) (record { file = D.file desk.new; reads = D.read_faults desk.new; writes = D.write_faults desk.new; taken = D.taken desk.new; unkept = D.unkept desk.new }) name.now result }
 {
     let mut input = match desk.open_in(name) {
@@ -53,7 +57,11 @@ pub(crate) fn read_survey<D: Desk>(alloc: Global, desk: &mut D, name: &str) -> R
 }
 
 /// Writes a whole file. What was given is kept whatever came of it.
-pub(crate) fn write_file<D: Desk>(desk: &mut D, name: &str, bytes: &[u8]) -> Result<(), WriteRefusal>
+pub(crate) fn write_file<D: Desk>(
+    desk: &mut D,
+    name: &str,
+    bytes: &[u8],
+) -> Result<(), WriteRefusal>
     ensures { Writes D.tells (record { file = D.file desk.old; reads = D.read_faults desk.old; writes = D.write_faults desk.old; taken = D.taken desk.old; unkept = D.unkept desk.old }) (record { file = D.file desk.new; reads = D.read_faults desk.new; writes = D.write_faults desk.new; taken = D.taken desk.new; unkept = D.unkept desk.new }) name.now bytes.now result }
 {
     let mut out = match desk.open_out(name) {

@@ -4,8 +4,10 @@
 
 mod drawing;
 mod files;
+mod running;
 mod status;
 mod words;
 
 pub use drawing::draw;
+pub use running::run;
 pub use status::{Status, code};

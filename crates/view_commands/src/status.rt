@@ -42,10 +42,19 @@ pub fn code(status: &Status) -> u8
 }
 
 impl fmt::Display for Status {
+    ghost use Rattle.std.specs.Prelude.{Some};
+    ghost use Rattle.view_commands.specs.Status.{text_of};
+
+    ghost output = { λ status. Some (text_of status) };
+
     fn fmt<W: fmt::Write>(&self, f: &mut fmt::Formatter<W>) -> fmt::Result {
         match self {
             Status::Done => Ok(()),
-            Status::Limit(limit) => write!(f, "camera number {} is out of range: {}", limit.place, limit.value),
+            Status::Limit(limit) => write!(
+                f,
+                "camera number {} is out of range: {}",
+                limit.place, limit.value
+            ),
             Status::OpenFault { at } => write!(f, "cannot open word {at}"),
             Status::ReadFault { at } => write!(f, "cannot read word {at}"),
             Status::TooLong => f.write_str("survey is too long"),

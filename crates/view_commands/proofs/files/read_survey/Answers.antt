@@ -15,12 +15,16 @@ returns-in-NotYet g c =
       read_fault = search rules;
       too_long = search rules;
       too_many = search rules;
-      not_yet = λ _. (came.0, taken_to_the_end _ _ c.args.name.now came.0 _ _ _ _ came.1 came.2 c.in-Ok.ensures.untaken c.in-Ok.ensures.bytes
-          (subst (λ (before : ℕ). RoseBy (g.D.In.Source.taken c.load-loaded.new.source) before (g.D.Desk.taken c.shut.new.self c.args.name.now)) (c.in-Ok.ensures.taken c.args.name.now) c.shut.ensures.count), came.3);
+      not_yet = λ _. (
+        came.0,
+        taken_to_the_end _ _ c.args.name.now came.0 _ _ _ _ came.1 came.2 c.in-Ok.ensures.untaken c.in-Ok.ensures.bytes
+            (subst (λ (before : ℕ). RoseBy (g.D.In.Source.taken c.load-loaded.new.source) before (g.D.Desk.taken c.shut.new.self c.args.name.now)) (c.in-Ok.ensures.taken c.args.name.now) c.shut.ensures.count),
+        came.3,
+      );
       files = search rules;
       writes = search rules;
       unkept = search rules;
       reads = search rules;
       later = search rules;
-      taken = search rules
+      taken = search rules;
     }

@@ -18,7 +18,7 @@ loop-i-preserved c =
     let fits : FitsSigned w128 c.in_ok-numbers.field-0 = search rules in
     simp to_z-of_z record {
       size = length-set c.loop-i.numbers c.loop-i.i c.in_ok-numbers.field-0 ∙ c.loop-i.invariant.size;
-      reads = reads_more (texts c.args.words.now) c.loop-i.i c.loop-i.numbers c.in_ok-numbers.field-0 (omega (arith, c.loop-i.invariant.size)) is c.loop-i.invariant.reads
+      reads = reads_more (texts c.args.words.now) c.loop-i.i c.loop-i.numbers c.in_ok-numbers.field-0 (omega (arith, c.loop-i.invariant.size)) is c.loop-i.invariant.reads;
     }
 
 pub returns-clause-all : goal.returns-clause-all

@@ -6,5 +6,5 @@ use Rattle.view_commands.proofs.words.numbers_of.Given as goal
 abbrev pub invariant-loop-i : goal.invariant-loop-i
 invariant-loop-i l = record {
   size : length l.numbers ≡ 18;
-  reads : Reads (texts l.words) l.i l.numbers
+  reads : Reads (texts l.words) l.i l.numbers;
 }
