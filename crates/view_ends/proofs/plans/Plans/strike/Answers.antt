@@ -2,7 +2,7 @@ use Rattle.std.proofs.Common.{◌≡◌, ℕ, ◌<◌, List, ◌∷◌, length, 
 use Rattle.std.proofs.lemmas.Bool.{cases_lt}
 use Rattle.std.proofs.lemmas.List.Sorted.{IsPermutation-remove}
 use Rattle.std.proofs.lemmas.Option.{slice_get-get_or, slice_get_past}
-use Rattle.view_ends.specs.Plans.{Plan, IsFor}
+use Rattle.view_ends.specs.Plans.{IsFor}
 use Rattle.view_ends.proofs.plans.Plans.strike.Goals as goal
 
 -- an element that is there lies within the list
