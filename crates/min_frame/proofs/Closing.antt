@@ -1,11 +1,13 @@
 -- What the rule says once the root is the only seat left.
-use Rattle.std.proofs.Common.{◌≡◌, ◌≢◌, ℕ, zero, suc, ◌+◌, ◌-◌, ◌^◌, ◌<◌, ◌≤◌, ◌==◌, min, Bool, true, false, nat_lt, List, [], ◌∷◌, ◌++◌, length, slice_set, slice_index, All, Contains, refl, sym, ap, subst, ◌∙◌, arith, ⊎_elim}
+use Rattle.std.proofs.Common.{◌≡◌, ◌≢◌, ℕ, zero, suc, ◌+◌, ◌-◌, ◌^◌, ◌<◌, ◌≤◌, ◌==◌, min, Bool, true, false, nat_lt, List, [], ◌∷◌, ◌++◌, length, slice_set, slice_index, All, Contains, refl, take, sym, ap, subst, ◌∙◌, arith, ⊎_elim}
+use Rattle.std.proofs.Math.Seq.{take-append_seam}
 use Rattle.std.proofs.lemmas.Bool.Decides.{nat_tests}
+use Rattle.std.proofs.lemmas.List.{get_or-set_same, get_or-set_other}
 use mathlib.Core.Logic.{dite}
-use mathlib.Core.Option.{some}
+use mathlib.Core.Option.{some, none, some-injective, some-ne-none}
 use native.Mathlib.Decide.{ℕ_discrete}
 use lib.ListN.{get_elem?}
-use Rattle.atomic_table.proofs.Lists.{at_set}
+use Rattle.atomic_table.specs.Table.{State, Final, Seen}
 use Rattle.min_frame.specs.declared.view.Size.{Size}
 use Rattle.min_frame.specs.declared.view.View.{View}
 use Rattle.min_frame.specs.Claimed.{times}
@@ -80,3 +82,24 @@ reached n w blocks past low = grind (arith, nat_tests)
 pub last_all : (size : Size) (words : List ℕ) (v : View) → IsLast size words v → v.ends < size.ends → (n : ℕ) → n < size.blocks → Contains v.claims n
 last_all size words v last used n low =
     contains_of_times n v.claims (omega (arith, last.claims n, reached n (slice_index words size.pixels) size.blocks (omega (arith, last.ends)) low))
+
+pub final_last : (size : Size) (id : ℕ) (v : View) (ws : List ℕ) (xs : List (Unit {0})) → v.root ≡ true → v.live ≡ true → v.out ≡ 0
+    → Final {S = Unit {0}} {V = View} (Seen (λ s. IsKept size s.words s.views) id v) ws xs → IsLast size ws v
+final_last size id v ws xs root live out end =
+    subst (λ l. IsLast size l v) end.2 (is_last size end.0.words end.0.views id v root live out end.1.0 end.1.1)
+
+pub slice_index-get : (xs : List ℕ) (i n : ℕ) → get_elem? xs i ≡ some n → slice_index xs i ≡ n
+slice_index-get [] i n at = absurd (some-ne-none n (sym at))
+slice_index-get (x ∷ xs) zero n at = some-injective x n at
+slice_index-get (x ∷ xs) (suc i) n at = slice_index-get xs i n at
+
+-- one more word was copied
+pub copied_more : (xs ys : List ℕ) (i n : ℕ) → i < length xs → get_elem? ys i ≡ some n
+    → ((k : ℕ) → k < i → slice_index xs k ≡ slice_index ys k) → (k : ℕ) → k < i + 1 → slice_index (slice_set xs i n) k ≡ slice_index ys k
+copied_more xs ys i n inside at before k low =
+    dite (ℕ_discrete k i)
+        (λ e. subst (λ j. slice_index (slice_set xs i n) j ≡ slice_index ys j) (sym e) (get_or-set_same xs i n 0 inside ∙ sym (slice_index-get ys i n at)))
+        (λ other. get_or-set_other xs i k n 0 other ∙ before k (omega arith))
+
+pub take-whole : (n : ℕ) (xs ys : List ℕ) → length xs ≡ n → take n (xs ++ ys) ≡ xs
+take-whole n xs ys long = subst (λ k. take k (xs ++ ys) ≡ xs) long (take-append_seam xs ys)
