@@ -1,17 +1,16 @@
 -- A claim keeps the rule.
-use Rattle.std.proofs.Common.{◌≡◌, ◌≢◌, ℕ, zero, suc, ◌+◌, ◌-◌, ◌%◌, ◌^◌, ◌<◌, ◌≤◌, ◌==◌, min, Bool, true, false, cond, nat_lt, List, [], ◌∷◌, ◌++◌, length, get_or, slice_set, slice_index, All, refl, sym, ap, subst, ◌∙◌, arith, ⊎_elim, mod-eq_of_lt}
+use Rattle.std.proofs.Common.{◌≡◌, ℕ, zero, suc, ◌+◌, ◌%◌, ◌^◌, ◌<◌, ◌≤◌, ◌==◌, min, max, true, nat_lt, List, [], ◌∷◌, ◌++◌, length, slice_set, slice_index, All, refl, sym, subst, ◌∙◌, arith, mod-eq_of_lt}
 use Rattle.std.proofs.lemmas.Bool.Decides.{nat_tests}
 use Rattle.std.proofs.lemmas.List.{length-set, get_or-set_same, get_or-set_other}
 use mathlib.Core.Logic.{dite}
 use mathlib.Core.Option.{some, none}
 use native.Mathlib.Decide.{dec_le}
 use lib.ListN.{get_elem?}
-use Rattle.atomic_table.specs.Table.{State, Me, Step, Allows, step, keeps}
+use Rattle.atomic_table.specs.Table.{Me, Allows, step, keeps}
 use Rattle.min_frame.specs.declared.view.Size.{Size}
 use Rattle.min_frame.specs.declared.view.View.{View}
 use Rattle.min_frame.specs.Claimed.{times}
-use Rattle.min_frame.specs.Least.{least}
-use Rattle.min_frame.specs.Rule.{one_if, total, all_plots, IsKept, IsFitting, Claims, claimed, ended}
+use Rattle.min_frame.specs.Rule.{one_if, IsKept, Claims, claimed, ended}
 use Rattle.min_frame.proofs.Leasts.{least-same_plots}
 use Rattle.min_frame.proofs.Totals.{total-set, total_has}
 use Rattle.min_frame.proofs.Views.{each_set, still_live}
@@ -25,6 +24,20 @@ pub all_of_times : (P : ℕ → Type 0) (ks : List ℕ) → ((n : ℕ) → 1 ≤
 all_of_times P [] each k d low = absurd (omega arith)
 all_of_times P (n ∷ ns) each zero d low = each n (grind (arith, nat_tests))
 all_of_times P (n ∷ ns) each (suc k) d low = all_of_times P ns (λ m once. each m (omega arith)) k d (omega arith)
+
+-- one more than the greatest number of the list, or 0 where it is empty: it rises with each claim, so a loop that claims until nothing is left ends
+abbrev pub above_all : List ℕ → ℕ
+above_all [] = 0
+above_all (k ∷ ks) = max (k + 1) (above_all ks)
+
+pub above_all-le : (ks : List ℕ) (n : ℕ) → All (λ k. k < n) ks → above_all ks ≤ n
+above_all-le [] n each = omega arith
+above_all-le (k ∷ ks) n each = let here = each 0 0 (omega arith) in let later = above_all-le ks n (λ i d low. each (suc i) d (omega arith)) in omega arith
+
+pub above_all-push : (ks : List ℕ) (n : ℕ) → All (λ k. k < n) ks → above_all (ks ++ n ∷ []) ≡ n + 1
+above_all-push [] n each = omega arith
+above_all-push (k ∷ ks) n each =
+    let here = each 0 0 (omega arith) in let later = above_all-push ks n (λ i d low. each (suc i) d (omega arith)) in omega arith
 
 -- one more number was claimed
 claim_some : (w n blocks : ℕ) → w < blocks → one_if (nat_lt n (min (w + 1) blocks)) ≡ one_if (nat_lt n (min w blocks)) + one_if (w == n)
@@ -89,18 +102,30 @@ claim_allows_at size slots id blocks me one live is = λ s kept homes at small.
     let fits : found + 1 < 2 ^ 64 = omega (arith, kept.small, kept.ends, total_has (λ u. u.ends) s.views id me.0 at) in
     let whole : (found + 1) % 2 ^ 64 ≡ found + 1 = mod-eq_of_lt fits in
     dite (dec_le size.blocks found)
-        (λ high. (ended me.0, keeps, tt, rw whole (claim_ends size s.words s.views id me.0 high one live kept at), record {
-          slots = refl;
-          taken = λ low. absurd (omega arith);
-          above = λ low. claim_above size s.words s.views id me.0 kept at;
-          ended = λ h. refl;
-        }))
-        (λ low. (claimed me.0 found, keeps, tt, rw whole (claim_takes size s.words s.views id me.0 (omega (arith, low)) live kept at), record {
-          slots = refl;
-          taken = λ h. refl;
-          above = λ h. claim_above size s.words s.views id me.0 kept at;
-          ended = λ h. absurd (low (omega arith));
-        }))
+    (λ high. (
+      ended me.0,
+      keeps,
+      tt,
+      rw whole (claim_ends size s.words s.views id me.0 high one live kept at),
+      record {
+        slots = refl;
+        taken = λ low. absurd (omega arith);
+        above = λ low. claim_above size s.words s.views id me.0 kept at;
+        ended = λ h. refl;
+      },
+    ))
+    (λ low. (
+      claimed me.0 found,
+      keeps,
+      tt,
+      rw whole (claim_takes size s.words s.views id me.0 (omega (arith, low)) live kept at),
+      record {
+        slots = refl;
+        taken = λ h. refl;
+        above = λ h. claim_above size s.words s.views id me.0 kept at;
+        ended = λ h. absurd (low (omega arith));
+      },
+    ))
 
 pub claim_allows : (size : Size) (slots id place blocks : ℕ) (me : Me (Unit {0}) View) → 1 ≤ me.0.ends → me.0.live ≡ true → size.pixels ≡ place → size.blocks ≡ blocks
     → Allows (λ s. IsKept size s.words s.views) slots id me place (λ n. (n + 1) % 2 ^ 64) (Claims blocks (step slots place 1 0 none) me)

@@ -1,18 +1,18 @@
 -- What the rule says once the root is the only seat left.
-use Rattle.std.proofs.Common.{◌≡◌, ◌≢◌, ℕ, zero, suc, ◌+◌, ◌-◌, ◌^◌, ◌<◌, ◌≤◌, ◌==◌, min, Bool, true, false, nat_lt, List, [], ◌∷◌, ◌++◌, length, slice_set, slice_index, All, Contains, refl, take, sym, ap, subst, ◌∙◌, arith, ⊎_elim}
+use Rattle.std.proofs.Common.{◌≡◌, ℕ, zero, suc, ◌+◌, ◌-◌, ◌^◌, ◌<◌, ◌≤◌, min, true, false, nat_lt, List, [], ◌∷◌, ◌++◌, length, slice_set, slice_index, All, Contains, take, sym, ap, subst, ◌∙◌, arith}
 use Rattle.std.proofs.Math.Seq.{take-append_seam}
 use Rattle.std.proofs.lemmas.Bool.Decides.{nat_tests}
 use Rattle.std.proofs.lemmas.List.{get_or-set_same, get_or-set_other}
 use mathlib.Core.Logic.{dite}
-use mathlib.Core.Option.{some, none, some-injective, some-ne-none}
+use mathlib.Core.Option.{some, some-injective, some-ne-none}
 use native.Mathlib.Decide.{ℕ_discrete}
 use lib.ListN.{get_elem?}
-use Rattle.atomic_table.specs.Table.{State, Final, Seen}
+use Rattle.atomic_table.specs.Table.{Final, Seen}
 use Rattle.min_frame.specs.declared.view.Size.{Size}
 use Rattle.min_frame.specs.declared.view.View.{View}
 use Rattle.min_frame.specs.Claimed.{times}
 use Rattle.min_frame.specs.Least.{least}
-use Rattle.min_frame.specs.Rule.{one_if, total, all_plots, IsKept, IsFitting, spent_view}
+use Rattle.min_frame.specs.Rule.{one_if, total, all_plots, IsKept, spent_view}
 use Rattle.min_frame.proofs.Claiming.{all_of_times}
 use Rattle.min_frame.proofs.Leasts.{least-le, least-set, all_plots-nil}
 use Rattle.min_frame.proofs.Others.{without, one_if-zero, one_if-true, rest_fits, rest_out}
@@ -50,7 +50,7 @@ is_last size words views id v root live out kept at =
     let no_plots : all_plots (without views id) ≡ [] = all_plots-nil (without views id) (λ j u there. ((fits j u there).joined (joined j u there)).0) in
     let no_ends : total (λ u. u.ends) (without views id) ≡ 0 = total-zero (λ u. u.ends) (without views id) (λ j u there. ((fits j u there).joined (joined j u there)).2) in
     let no_claims : (n : ℕ) → total (λ u. times n u.claims) (without views id) ≡ 0 =
-        λ n. total-zero (λ u. times n u.claims) (without views id) (λ j u there. ap (times n) ((fits j u there).joined (joined j u there)).1) in
+    λ n. total-zero (λ u. times n u.claims) (without views id) (λ j u there. ap (times n) ((fits j u there).joined (joined j u there)).1) in
     record {
       places = kept.places;
       pixels = λ x inside. kept.pixels x inside ∙ last_step (least (all_plots views) x) (least v.plots x) (2 ^ 64 - 1)
@@ -73,8 +73,8 @@ pub contains_of_times : (n : ℕ) (ks : List ℕ) → 1 ≤ times n ks → Conta
 contains_of_times n [] once = absurd (omega arith)
 contains_of_times n (k ∷ ks) once =
     dite (ℕ_discrete k n)
-        (λ e. (0, omega arith, e))
-        (λ other. let later = contains_of_times n ks (grind (arith, nat_tests)) in (suc later.0, omega (arith, later.1), later.2))
+    (λ e. (0, omega arith, e))
+    (λ other. let later = contains_of_times n ks (grind (arith, nat_tests)) in (suc later.0, omega (arith, later.1), later.2))
 
 reached : (n w blocks : ℕ) → blocks < w → n < blocks → 1 ≤ one_if (nat_lt n (min w blocks))
 reached n w blocks past low = grind (arith, nat_tests)
@@ -98,8 +98,8 @@ pub copied_more : (xs ys : List ℕ) (i n : ℕ) → i < length xs → get_elem?
     → ((k : ℕ) → k < i → slice_index xs k ≡ slice_index ys k) → (k : ℕ) → k < i + 1 → slice_index (slice_set xs i n) k ≡ slice_index ys k
 copied_more xs ys i n inside at before k low =
     dite (ℕ_discrete k i)
-        (λ e. subst (λ j. slice_index (slice_set xs i n) j ≡ slice_index ys j) (sym e) (get_or-set_same xs i n 0 inside ∙ sym (slice_index-get ys i n at)))
-        (λ other. get_or-set_other xs i k n 0 other ∙ before k (omega arith))
+    (λ e. subst (λ j. slice_index (slice_set xs i n) j ≡ slice_index ys j) (sym e) (get_or-set_same xs i n 0 inside ∙ sym (slice_index-get ys i n at)))
+    (λ other. get_or-set_other xs i k n 0 other ∙ before k (omega arith))
 
 pub take-whole : (n : ℕ) (xs ys : List ℕ) → length xs ≡ n → take n (xs ++ ys) ≡ xs
 take-whole n xs ys long = subst (λ k. take k (xs ++ ys) ≡ xs) long (take-append_seam xs ys)

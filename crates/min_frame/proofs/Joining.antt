@@ -1,14 +1,14 @@
 -- A join keeps the rule.
-use Rattle.std.proofs.Common.{◌≡◌, ◌≢◌, ℕ, ◌+◌, ◌-◌, ◌^◌, ◌<◌, ◌≤◌, ◌==◌, min, Bool, true, false, List, [], ◌∷◌, ◌++◌, length, slice_set, slice_index, refl, sym, ap, ◌∙◌, arith, ⊎_elim}
+use Rattle.std.proofs.Common.{◌≡◌, ℕ, ◌+◌, ◌-◌, ◌^◌, ◌≤◌, min, true, false, List, slice_set, sym, ap, ◌∙◌, arith}
 use mathlib.Core.Option.{some}
 use lib.ListN.{get_elem?}
-use Rattle.atomic_table.specs.Table.{State, Joins}
-use Rattle.atomic_table.proofs.Lists.{at_set, set_else}
+use Rattle.atomic_table.specs.Table.{Joins}
+use Rattle.atomic_table.proofs.Lists.{set_else}
 use Rattle.min_frame.specs.declared.view.Size.{Size}
 use Rattle.min_frame.specs.declared.view.View.{View}
 use Rattle.min_frame.specs.Claimed.{times}
 use Rattle.min_frame.specs.Least.{least}
-use Rattle.min_frame.specs.Rule.{one_if, total, all_plots, IsKept, IsFitting, merged, spent_view}
+use Rattle.min_frame.specs.Rule.{one_if, total, all_plots, IsKept, merged, spent_view}
 use Rattle.min_frame.proofs.Claiming.{times-append}
 use Rattle.min_frame.proofs.Leasts.{least-le, least-append, least-set, least_below}
 use Rattle.min_frame.proofs.Others.{without, one_if-true, spent_fits, rest_out}
@@ -29,13 +29,13 @@ least-joined views id other x v w at apart there =
     let here : get_elem? first id ≡ some both = at-set_here views id v both at in
     let kept : get_elem? second id ≡ some both = set_else first other id spent_view (λ e. apart (sym e)) ∙ here in
     join_step (least (all_plots views) x) (least (all_plots first) x) (least (all_plots second) x) (least v.plots x) (least w.plots x) (2 ^ 64 - 1)
-        (rw (← more) (least-set views id v both x at))
-        (least-set first other w spent_view x there)
-        (rw (← more) (least_below first id both x here))
-        (rw (← more) (least_below second id both x kept))
-        (least_below views id v x at)
-        (least_below views other w x (sym (set_else views id other both apart) ∙ there))
-        (least-le (all_plots first) x)
+    (rw (← more) (least-set views id v both x at))
+    (least-set first other w spent_view x there)
+    (rw (← more) (least_below first id both x here))
+    (rw (← more) (least_below second id both x kept))
+    (least_below views id v x at)
+    (least_below views other w x (sym (set_else views id other both apart) ∙ there))
+    (least-le (all_plots first) x)
 
 total_joined : (f : View → ℕ) (views : List View) (id other : ℕ) (v w both spent : View) → get_elem? views id ≡ some v → get_elem? (slice_set views id both) other ≡ some w
     → total f (slice_set (slice_set views id both) other spent) + (f v + f w) ≡ total f views + (f both + f spent)

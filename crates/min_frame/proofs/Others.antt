@@ -1,5 +1,5 @@
 -- The views beside the root's.
-use Rattle.std.proofs.Common.{◌≡◌, ℕ, ◌+◌, ◌≤◌, Bool, true, false, List, [], ◌∷◌, slice_set, refl, sym, arith}
+use Rattle.std.proofs.Common.{◌≡◌, ℕ, ◌≤◌, Bool, true, false, List, slice_set, refl, arith}
 use mathlib.Core.Option.{some}
 use lib.ListN.{get_elem?}
 use Rattle.min_frame.specs.declared.view.Size.{Size}
@@ -32,4 +32,4 @@ pub rest_out : (size : Size) (words : List ℕ) (views : List View) (id : ℕ) (
 rest_out size words views id v root kept at =
     let none : total (λ u. one_if u.root) (without views id) ≡ 0 = omega (arith, total-set (λ u. one_if u.root) views id v spent_view at, kept.root, one_if-true v.root root) in
     total-zero (λ u. u.out) (without views id) (λ j u there.
-        (rest_fits size words views id v kept at j u there).worker (one_if-zero u.root (omega (arith, none, total_has (λ t. one_if t.root) (without views id) j u there))))
+    (rest_fits size words views id v kept at j u there).worker (one_if-zero u.root (omega (arith, none, total_has (λ t. one_if t.root) (without views id) j u there))))

@@ -1,18 +1,15 @@
 -- A plot keeps the rule.
-use Rattle.std.proofs.Common.{◌≡◌, ◌≢◌, ℕ, zero, suc, ◌+◌, ◌-◌, ◌^◌, ◌<◌, ◌≤◌, ◌==◌, min, Bool, true, false, cond, List, [], ◌∷◌, ◌++◌, length, get_or, slice_set, slice_index, refl, sym, ap, subst, ◌∙◌, arith, ⊎_elim}
+use Rattle.std.proofs.Common.{◌≡◌, ℕ, ◌-◌, ◌^◌, ◌<◌, ◌≤◌, min, true, List, [], ◌∷◌, length, slice_set, slice_index, refl, sym, ◌∙◌, arith}
 use Rattle.std.proofs.lemmas.Bool.Decides.{nat_tests}
 use Rattle.std.proofs.lemmas.List.{length-set, get_or-set_same, get_or-set_other}
-use mathlib.Core.Logic.{dite}
 use mathlib.Core.Option.{some, none}
-use native.Mathlib.Decide.{ℕ_discrete}
 use lib.ListN.{get_elem?}
-use Rattle.atomic_table.specs.Table.{State, Me, Step, Allows, step, keeps}
-use Rattle.atomic_table.proofs.Lists.{at_set}
+use Rattle.atomic_table.specs.Table.{Me, Allows, step, keeps}
 use Rattle.min_frame.specs.declared.view.Size.{Size}
 use Rattle.min_frame.specs.declared.view.View.{View}
 use Rattle.min_frame.specs.Claimed.{times}
 use Rattle.min_frame.specs.Least.{least}
-use Rattle.min_frame.specs.Rule.{one_if, total, all_plots, IsKept, IsFitting, Plots, plotted}
+use Rattle.min_frame.specs.Rule.{one_if, all_plots, IsKept, Plots, plotted}
 use Rattle.min_frame.proofs.Leasts.{least-le, least-append, least-set, least_below}
 use Rattle.min_frame.proofs.Totals.{total-set}
 use Rattle.min_frame.proofs.Views.{at-set_here, each_set, still_live}
@@ -27,9 +24,9 @@ least-plotted views id pixel value x v at =
     let w : View = plotted v pixel value in
     let more = least-append v.plots ((pixel, value) ∷ []) x in
     min_step (least (all_plots (slice_set views id w)) x) (least (all_plots views) x) (least v.plots x) (least ((pixel, value) ∷ []) x)
-        (rw (← more) (least-set views id v w x at))
-        (rw (← more) (least_below (slice_set views id w) id w x (at-set_here views id v w at)))
-        (least_below views id v x at)
+    (rw (← more) (least-set views id v w x at))
+    (rw (← more) (least_below (slice_set views id w) id w x (at-set_here views id v w at)))
+    (least_below views id v x at)
 
 -- a word of the row, where one pixel's word was lowered
 word_at : (words : List ℕ) (pixel value x : ℕ) (old : ℕ) → pixel < length words → value < 2 ^ 64 → slice_index words x ≡ old → old ≤ 2 ^ 64 - 1
@@ -42,7 +39,7 @@ plot_keeps : (size : Size) (words : List ℕ) (views : List View) (id pixel valu
 plot_keeps size words views id pixel value v inside fits live kept at =
     let w : View = plotted v pixel value in
     let claim_word : slice_index (slice_set words pixel (min (slice_index words pixel) value)) size.pixels ≡ slice_index words size.pixels =
-        get_or-set_other words pixel size.pixels (min (slice_index words pixel) value) 0 (λ e. omega arith) in
+    get_or-set_other words pixel size.pixels (min (slice_index words pixel) value) 0 (λ e. omega arith) in
     record {
       small = kept.small;
       places = length-set words pixel (min (slice_index words pixel) value) ∙ kept.places;

@@ -1,13 +1,13 @@
 -- A split keeps the rule.
-use Rattle.std.proofs.Common.{◌≡◌, ℕ, ◌+◌, ◌-◌, ◌^◌, ◌<◌, ◌≤◌, ◌==◌, min, Bool, true, false, List, [], ◌∷◌, ◌++◌, length, slice_set, slice_index, refl, sym, ap, ◌∙◌, arith}
+use Rattle.std.proofs.Common.{◌≡◌, ℕ, ◌<◌, true, List, [], ◌∷◌, ◌++◌, slice_set, refl, sym, ◌∙◌, arith}
 use mathlib.Core.Option.{some}
 use lib.ListN.{get_elem?}
-use Rattle.atomic_table.specs.Table.{State, Splits}
+use Rattle.atomic_table.specs.Table.{Splits}
 use Rattle.min_frame.specs.declared.view.Size.{Size}
 use Rattle.min_frame.specs.declared.view.View.{View}
 use Rattle.min_frame.specs.Claimed.{times}
 use Rattle.min_frame.specs.Least.{least}
-use Rattle.min_frame.specs.Rule.{one_if, total, all_plots, IsKept, IsFitting, parted, worker_view}
+use Rattle.min_frame.specs.Rule.{one_if, all_plots, IsKept, parted, worker_view}
 use Rattle.min_frame.proofs.Leasts.{least-le, least-snoc, least-same_plots}
 use Rattle.min_frame.proofs.Totals.{total_split}
 use Rattle.min_frame.proofs.Views.{each_set, each_snoc, not_both, still_live}

@@ -1,6 +1,6 @@
 -- A sum over all views, when one view changes.
 use Rattle.std.proofs.Common.{◌≡◌, ℕ, zero, suc, ◌+◌, ◌≤◌, List, [], ◌∷◌, ◌++◌, slice_set, refl, sym, ap, arith}
-use mathlib.Core.Option.{some, none, some-injective, some-ne-none}
+use mathlib.Core.Option.{some, some-injective, some-ne-none}
 use lib.ListN.{get_elem?}
 use Rattle.min_frame.specs.declared.view.View.{View}
 use Rattle.min_frame.specs.Rule.{total}

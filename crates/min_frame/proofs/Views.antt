@@ -1,6 +1,6 @@
 -- Looking a view up in a list of which one view changed.
-use Rattle.std.proofs.Common.{◌≡◌, ◌≢◌, ℕ, zero, suc, Bool, true, false, List, [], ◌∷◌, ◌++◌, slice_set, refl, sym, ap, subst, ⊎_elim}
-use mathlib.Core.Option.{some, none, some-ne-none}
+use Rattle.std.proofs.Common.{◌≡◌, ℕ, zero, suc, Bool, true, false, List, [], ◌∷◌, ◌++◌, slice_set, refl, sym, subst, ⊎_elim}
+use mathlib.Core.Option.{some, some-ne-none}
 use lib.ListN.{get_elem?}
 use Rattle.atomic_table.proofs.Lists.{at_set, at_snoc}
 use Rattle.min_frame.specs.declared.view.View.{View}

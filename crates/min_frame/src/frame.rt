@@ -135,7 +135,9 @@ impl Frame {
         ensures all { root.ends < self.ends → (n : ℕ) → n < self.blocks → Contains root.claims n }
     {
         let Frame {
-            table, mut room, ..
+            table,
+            mut room,
+            ..
         } = self;
         let closed = table.close_with(root.inner);
         for (x, word) in room.iter_mut().enumerate() {

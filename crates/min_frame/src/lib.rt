@@ -7,6 +7,8 @@
 mod frame;
 mod rule;
 mod seat;
+#[cfg(test)]
+mod tests;
 mod view;
 
 pub use frame::{Frame, MOST_BLOCKS, MOST_ENDS, MOST_PIXELS};

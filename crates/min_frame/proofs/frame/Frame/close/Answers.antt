@@ -1,9 +1,8 @@
-use Rattle.std.proofs.Common.{◌≡◌, ℕ, ◌+◌, ◌<◌, ◌≤◌, ◌++◌, Bool, List, slice_index, All, Contains, length, take, drop, rules, arith, sym, ap, subst, ◌∙◌, below_more}
-use Rattle.std.proofs.lemmas.List.{length-set, get_or-set_same, get_or-set_other}
+use Rattle.std.proofs.Common.{◌≡◌, ℕ, ◌<◌, ◌≤◌, List, slice_index, All, Contains, length, drop, arith, ap, subst, ◌∙◌}
 use Rattle.std.specs.Slots.{slots_items}
 use Rattle.min_frame.specs.Least.{least}
 use Rattle.min_frame.specs.Claimed.{times}
-use Rattle.min_frame.proofs.Closing.{IsLast, final_last, last_once, last_below, last_all, slice_index-get, copied_more, take-whole}
+use Rattle.min_frame.proofs.Closing.{IsLast, final_last, last_once, last_below, last_all, copied_more, take-whole}
 use Rattle.min_frame.proofs.frame.Frame.close.Goals as goal
 
 pub loop-x-init : goal.loop-x-init
@@ -27,7 +26,7 @@ returns c =
     let blocks : c.self.inside.blocks ≡ c.args.self.blocks = ap (λ m. m.blocks) c.self.view_is in
     let all : size.ends ≡ c.args.self.ends = ap (λ m. m.ends) c.self.view_is in
     let last : IsLast size words v =
-        final_last size c.root.inside.inner.id v words (slots_items c.close_with-closed.result.slots) (root ∙ c.requires.root) c.root.invariant.0 (out ∙ c.requires.out) c.close_with-closed.ensures.values.2 in
+    final_last size c.root.inside.inner.id v words (slots_items c.close_with-closed.result.slots) (root ∙ c.requires.root) c.root.invariant.0 (out ∙ c.requires.out) c.close_with-closed.ensures.values.2 in
     let long : length c.loop-x.word-items ≡ c.self.inside.room.len = omega arith in
     let items : c.from_vec.result.items ≡ c.loop-x.word-items = c.from_vec.ensures ∙ take-whole c.self.inside.room.len c.loop-x.word-items (drop (length c.loop-x.word-items) c.self.inside.room.items) long in
     let count : length c.from_vec.result.items ≡ length c.loop-x.word-items = ap length items in

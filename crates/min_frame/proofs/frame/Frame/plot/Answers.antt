@@ -1,4 +1,4 @@
-use Rattle.std.proofs.Common.{◌≡◌, ◌<◌, rules, arith, sym, ap}
+use Rattle.std.proofs.Common.{◌≡◌, rules, arith, ap}
 use Rattle.min_frame.proofs.Plotting.{plot_allows}
 use Rattle.min_frame.proofs.frame.Frame.plot.Goals as goal
 
