@@ -1,4 +1,4 @@
-ghost use Rattle.std.specs.Prelude.{◌≡◌, ◌≢◌, ℕ, ◌+◌, ◌-◌, ◌<◌, ◌≤◌, Bool, true, false, [], ◌∷◌, ◌++◌, length, slice_index, All, Contains, EachIndex, IfOk, IfSome, IfNone};
+ghost use Rattle.std.specs.Prelude.{◌≡◌, ℕ, ◌+◌, ◌-◌, ◌<◌, ◌≤◌, true, false, [], ◌∷◌, ◌++◌, length, slice_index, All, Contains, EachIndex, IfOk, IfSome, IfNone};
 ghost use Rattle.min_frame.specs.Least.{least};
 ghost use Rattle.min_frame.specs.Claimed.{times};
 
@@ -22,7 +22,8 @@ pub const MOST_ENDS: u32 = 64;
 /// The word of a pixel on which nothing was plotted.
 const EMPTY: u64 = u64::MAX;
 
-/// A framebuffer that threads share by `&`: a word for each pixel, and numbers to be claimed.
+/// A framebuffer that threads share by `&`: a 64-bit word for each pixel, which plots lower, and
+/// numbers of pieces of work, which are claimed. No call waits for another thread.
 #[derive(Drop)]
 pub struct Frame {
     table: Table<(), View, Size, Rule, Global>,
@@ -45,7 +46,8 @@ impl Model for Frame {
 
 impl Frame {
     /// A frame of `pixels` empty words, on which the numbers below `blocks` can be claimed and
-    /// `ends` claims may find nothing left, with its root seat. The refusal is want of memory.
+    /// `ends` claims may find nothing left, with its root seat. Takes the memory of all later
+    /// calls; the refusal is want of it.
     pub fn new(
         alloc: Global,
         pixels: u32,
@@ -76,7 +78,7 @@ impl Frame {
         Ok((frame, Seat { inner }))
     }
 
-    /// A new seat with `ends` of the root's ends. Takes no memory.
+    /// A new seat, with `ends` of the root's ends, for another thread. Takes no memory.
     pub fn split(&self, root: &mut Seat, ends: u32) -> Seat
         requires frame { root.old.frame ≡ self.now.name }
         requires root { root.old.root ≡ true }
@@ -87,7 +89,8 @@ impl Frame {
         split_by::<Brand>(self, root, ends)
     }
 
-    /// Lowers the word of `pixel` to `value` where it is above, in one atomic minimum.
+    /// Lowers the word of `pixel` to `value` where it is above, in one atomic minimum. `close`
+    /// tells what all plots leave.
     pub fn plot(&self, seat: &mut Seat, pixel: u32, value: u64)
         requires frame { seat.old.frame ≡ self.now.name }
         requires pixel { pixel < self.now.pixels }
@@ -98,8 +101,9 @@ impl Frame {
             .fetch_min::<Plot>(&mut seat.inner, pixel as usize, value);
     }
 
-    /// Claims the least number below `blocks` that nobody claimed, or finds that there is none, in
-    /// one atomic sum.
+    /// Claims a number below `blocks` that is above all that this seat claimed, or answers `None`
+    /// and uses up one of the seat's ends, in one atomic sum. `close` tells what the claims of all
+    /// seats have in common: none is made twice, and a `None` comes only once none is left.
     pub fn claim(&self, seat: &mut Seat) -> Option<u32>
         requires frame { seat.old.frame ≡ self.now.name }
         requires ends { 1 ≤ seat.old.ends }
@@ -111,7 +115,7 @@ impl Frame {
         claim_of::<Brand>(self, seat)
     }
 
-    /// Carries the account of a worker over to the root. Takes no memory.
+    /// Carries the account of a worker over to the root, and uses the worker up. Takes no memory.
     pub fn join(&self, root: &mut Seat, worker: Seat)
         requires frame { (root.old.frame ≡ self.now.name) × (worker.frame ≡ self.now.name) }
         requires root { root.old.root ≡ true }
@@ -123,7 +127,8 @@ impl Frame {
             .join_seat::<Merge>(&mut root.inner, worker.inner);
     }
 
-    /// The words of the pixels, once every seat is joined. Takes no memory.
+    /// The words of the pixels, once every seat is joined: each is the least value plotted on its
+    /// pixel, or 2^64 - 1 where there is none. Takes no memory.
     pub fn close(self, root: Seat) -> Words
         requires frame { root.frame ≡ self.name }
         requires root { root.root ≡ true }
@@ -148,6 +153,7 @@ impl Frame {
     }
 }
 
+/// `split`, where the step is told how many ends it gives away.
 fn split_by<E: Given>(frame: &Frame, root: &mut Seat, ends: u32) -> Seat
     requires picked { E.number ≡ ends }
     requires frame { root.old.frame ≡ frame.now.name }
@@ -156,12 +162,12 @@ fn split_by<E: Given>(frame: &Frame, root: &mut Seat, ends: u32) -> Seat
     ensures root { root.new ≡ record root.old { ends = root.old.ends - ends; out = root.old.out + 1 } }
     ensures worker { result ≡ record { frame = frame.now.name; plots = []; claims = []; ends = ends; root = false; out = 0 } }
 {
-    let _picked = ends;
     Seat {
         inner: frame.table.shared.split_seat::<Cut<E>>(&mut root.inner),
     }
 }
 
+/// `claim`, where the step is told how many numbers there are.
 fn claim_of<B: Given>(frame: &Frame, seat: &mut Seat) -> Option<u32>
     requires picked { B.number ≡ frame.now.blocks }
     requires frame { seat.old.frame ≡ frame.now.name }

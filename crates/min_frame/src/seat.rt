@@ -1,8 +1,8 @@
 use crate::view::View;
 use std::marker::Model;
 
-/// A thread's right to plot and claim on one frame, and the account of what it did. Contracts see
-/// that account; at run time a seat has no bytes.
+/// A thread's right to plot and claim on one frame, and the account of what it did there. Contracts
+/// see the account; at run time a seat has no bytes. A frame with a lost seat can't be closed.
 #[derive(Drop)]
 pub struct Seat {
     pub(crate) inner: atomic_table::Seat<(), View>,
