@@ -1,14 +1,14 @@
 -- The items of a class list, and the set that they name together.
-use Rattle.std.proofs.Common.{◌≡◌, ℕ, ◌+◌, ◌<◌, ◌≤◌, Bool, true, false, ◌||◌, ◌&&◌, ltb, leb, Option, Some, None, List, [], ◌∷◌, length, get_or, take, drop, refl, sym, ap, ◌∙◌, inl, inr, arith}
+use Rattle.std.proofs.Common.{◌≡◌, ℕ, ◌+◌, ◌<◌, Bool, true, false, ◌||◌, ◌&&◌, ltb, leb, Option, Some, None, List, [], ◌∷◌, length, get_or, take, drop, refl, sym, ap, ◌∙◌, inl, inr, arith}
 use Rattle.std.specs.Option.{option_map}
-use Rattle.std.specs.List.{All, list_any, position, position_or_len, slice_split}
+use Rattle.std.specs.List.{All, position, position_or_len, slice_split}
 use Rattle.std.specs.Prelude.{codes}
 use Rattle.std.specs.Str.{bytes_eq}
 use Rattle.std.proofs.lemmas.Bool.{cases_Bool, ltb-false}
 use Rattle.std.proofs.lemmas.List.{at_drop_more, at_drop_all}
 use Rattle.std.proofs.lemmas.List.Folds.{list_any_at, list_any_none}
 use Rattle.std.proofs.lemmas.List.Quantifiers.{position-Some}
-use Rattle.std.proofs.lemmas.List.Sums.{position_or_len_is, fails_before_first, passes_at_first}
+use Rattle.std.proofs.lemmas.List.Sums.{position_or_len_is, fails_before_first}
 use Rattle.view_base.specs.Text.{digits}
 use Rattle.view_meaning.specs.Classes.{has, all_classes}
 use Rattle.class_bits.specs.ClassSet.{IsClassSet, no_classes, set_of}
@@ -27,8 +27,9 @@ item_range-cut item n found =
 all_fail : (p : ℕ → Bool) (cs : List ℕ) → position p cs ≡ None → All (λ c. p c ≡ false) cs
 all_fail p cs missed k d inside =
     elim (cases_Bool (ltb (position_or_len p cs) (length cs))) [
-        inl found ↦ absurd (let some : position p cs ≡ Some (position_or_len p cs) = rw found refl in cc)
-      | inr past ↦ fails_before_first p cs k d (omega (arith, ltb-false _ _ past)) ]
+      | inl found ↦ absurd (let some : position p cs ≡ Some (position_or_len p cs) = rw found refl in cc)
+      | inr past ↦ fails_before_first p cs k d (omega (arith, ltb-false _ _ past))
+    ]
 
 -- an item without a dash is one number
 pub item_range-whole : (item : List ℕ) → position is_dash item ≡ None → item_range item ≡ range_of (digits item) (digits item)
@@ -63,7 +64,7 @@ regrouped : (range : ℕ × ℕ) (set : List ℕ) (ranges : Option (List (ℕ ×
 regrouped range set None = refl
 regrouped range set (Some ranges) =
     ap Some (same_set_of (λ c. has (set_of (λ d. has set d || is_between d range)) c || in_ranges ranges c) (λ c. has set c || in_ranges (range ∷ ranges) c) (λ c l.
-        ap (λ b. b || in_ranges ranges c) (has-set_of (λ d. has set d || is_between d range) c l) ∙ in_more (has set c) (is_between c range) (in_ranges ranges c)))
+    ap (λ b. b || in_ranges ranges c) (has-set_of (λ d. has set d || is_between d range) c l) ∙ in_more (has set c) (is_between c range) (in_ranges ranges c)))
 
 joined-step : (range : Option (ℕ × ℕ)) (items : List (List ℕ)) (set : List ℕ) → IsClassSet set → ((s : List ℕ) → IsClassSet s → joined items s ≡ option_map (with_ranges s) (item_ranges items)) → joined_range range (joined items) set ≡ option_map (with_ranges set) (and_ranges range (item_ranges items))
 joined-step None items set is more = refl

@@ -29,5 +29,24 @@ pub fn with_class(format: u8, byte: u8, class: u8) -> u8
     ensures class { class_of format result ≡ class }
     ensures flags { format ≤ 5 → result / 32 ≡ byte / 32 }
 {
-    if format <= 5 { byte & 224 | class } else { class }
+    if format <= 5 {
+        byte & 224 | class
+    } else {
+        class
+    }
+}
+
+#[cfg(test)]
+mod tests {
+    use super::*;
+
+    #[test]
+    fn flags_stay_where_a_class_changes(rt: HostRuntime) {
+        assert_eq!(rt; top_class(5), 31);
+        assert_eq!(rt; class_of(0, 0xE2), 2);
+        assert_eq!(rt; with_class(0, 0xE2, 6), 0xE6);
+        assert_eq!(rt; top_class(6), 255);
+        assert_eq!(rt; class_of(6, 0xC8), 200);
+        assert_eq!(rt; with_class(10, 0xC8, 7), 7);
+    }
 }

@@ -41,7 +41,9 @@ impl ClassSet {
         ensures words { IsClassSet result }
         ensures each { (c : ℕ) → c < 256 → has result c ≡ true }
     {
-        ClassSet { words: [u64::MAX; 4] }
+        ClassSet {
+            words: [u64::MAX; 4],
+        }
     }
 
     /// Puts a class into the set.

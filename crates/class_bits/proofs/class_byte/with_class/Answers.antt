@@ -1,4 +1,4 @@
-use Rattle.std.proofs.Common.{◌<◌, ◌≤◌, leb, true, ◌≡◌, arith, ◌∙◌}
+use Rattle.std.proofs.Common.{leb, true, ◌≡◌, arith}
 use Rattle.std.proofs.lemmas.Bool.{le-leb}
 use Rattle.class_bits.proofs.ClassBytes.{flags_or_class, class_under_flags, flags_over_class}
 use Rattle.class_bits.proofs.class_byte.with_class.Goals as goal

@@ -6,5 +6,5 @@ use Rattle.class_bits.proofs.class_set.ClassSet.add_range.Given as goal
 abbrev pub invariant-loop-class : goal.invariant-loop-class
 invariant-loop-class l = record {
   words : l.first < l.class → IsClassSet l.self;
-  added : (c : ℕ) → c < 256 → has l.self c ≡ (has l.initial.self c || (leb l.first c && ltb c l.class))
+  added : (c : ℕ) → c < 256 → has l.self c ≡ (has l.initial.self c || (leb l.first c && ltb c l.class));
 }

@@ -1,4 +1,4 @@
-use Rattle.std.proofs.Common.{◌%◌, sym, refl}
+use Rattle.std.proofs.Common.{sym}
 use Rattle.std.proofs.lemmas.Nat.Bits.{shr_and_one}
 use Rattle.class_bits.proofs.Sets.{has-bit}
 use Rattle.class_bits.proofs.class_set.ClassSet.has.Goals as goal
