@@ -56,6 +56,7 @@ impl Survey {
     /// The number of point records, at most 53687091: a record has at least 20 of the bytes.
     pub fn records(&self) -> u32
         ensures count { result ≡ record_count self.now }
+        ensures plain { IsPlain self.now }
         ensures small { result ≤ 53687091 }
     {
         self.header.records as u32
@@ -67,6 +68,7 @@ impl Survey {
         ensures bytes { result.now ≡ take (record_length self.now) (drop (record_at self.now i) self.now) }
         ensures whole { length result.now ≡ record_length self.now }
         ensures least { 20 ≤ record_length self.now }
+        ensures plain { IsPlain self.now }
     {
         let size = usize::from(self.header.length);
         let at = self.header.points_at as usize + i as usize * size;

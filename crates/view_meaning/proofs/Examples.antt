@@ -1,14 +1,13 @@
 -- Pictures worked by hand: the definitions give the bytes that arithmetic gives.
-use Rattle.std.proofs.Common.{◌≡◌, ℕ, ◌+◌, ◌*◌, ◌^◌, ◌-◌, ◌%◌, ◌/◌, List, [], ◌∷◌, ◌++◌, refl, replicate, false, length, ℤ, pos, negsuc, map}
+use Rattle.std.proofs.Common.{◌≡◌, ℕ, List, [], ◌∷◌, ◌++◌, refl, replicate, ℤ, pos, negsuc}
 use Rattle.std.specs.Prelude.{codes}
 use Rattle.std.specs.Int.{cast_unsigned, w32, to_le_bytes, w64}
 use Rattle.std.specs.List.{flat_map}
 use Rattle.view_base.specs.declared.place.Point.{Point}
-use Rattle.view_base.specs.declared.colour.Colouring.TheVariants.{Class}
 use Rattle.view_meaning.specs.Survey.{u8_at, u16_at, u32_at, u64_at, i32_at, record_count, record_at, point_of, class_byte, withheld_of}
-use Rattle.view_meaning.specs.Classes.{has, all_classes, class_at, classes, passes}
+use Rattle.view_meaning.specs.Classes.{has, class_at, classes, passes}
 use Rattle.view_meaning.specs.Camera.{Lens, spot, orthographic, perspective}
-use Rattle.view_meaning.specs.Picture.{View, is_candidate, candidates, depth_of, nearest, colour, pixel, ppm_header, picture}
+use Rattle.view_meaning.specs.Picture.{by_class, is_candidate, candidates, depth_of, nearest, colour, pixel}
 
 abbrev zeros : ℕ → List ℕ
 zeros n = replicate n 0
@@ -33,17 +32,22 @@ at x y z = record { x = x; y = y; z = z }
 -- an orthographic camera of one pixel at the origin that looks along Z
 abbrev one_pixel : Lens
 one_pixel = record {
-  kind = orthographic; width = 1; height = 1; eye = at (pos 0) (pos 0) (pos 0);
-  right = at (pos 1) (pos 0) (pos 0); down = at (pos 0) (pos 1) (pos 0); forward = at (pos 0) (pos 0) (pos 1);
-  scale = 1; unit = 1; near = 0; far = 10
+  kind = orthographic;
+  width = 1;
+  height = 1;
+  eye = at (pos 0) (pos 0) (pos 0);
+  right = at (pos 1) (pos 0) (pos 0);
+  down = at (pos 0) (pos 1) (pos 0);
+  forward = at (pos 0) (pos 0) (pos 1);
+  scale = 1;
+  unit = 1;
+  near = 0;
+  far = 10;
 }
-
-abbrev all_by_class : Lens → View
-all_by_class lens = record { camera = lens; colouring = Class; filter = record { classes = all_classes; hide_withheld = false } }
 
 -- the pixel of a column and row in a picture of a file by class, all records shown
 abbrev shows : List ℕ → Lens → ℕ → ℕ → List ℕ
-shows b lens x y = pixel b (classes b []) (all_by_class lens) x y
+shows b lens x y = pixel b (classes b []) (by_class lens) x y
 
 abbrev class_2 : List ℕ
 class_2 = 0xC6 ∷ 0x86 ∷ 0xFA ∷ []
@@ -54,14 +58,13 @@ class_6 = 0xD2 ∷ 0x92 ∷ 0x6E ∷ []
 abbrev black : List ℕ
 black = 0 ∷ 0 ∷ 0 ∷ []
 
-
 -- one point in class 2
 the_one_point_shows : shows (plain 1 ((at (pos 0) (pos 0) (pos 5), 2) ∷ [])) one_pixel 0 0 ≡ class_2
 unfolding u8_at u16_at u32_at u64_at i32_at record_count record_at point_of class_byte withheld_of has class_at classes passes spot is_candidate candidates depth_of nearest colour pixel
 the_one_point_shows = refl
 
 -- no points
-nothing_shows_black : shows (plain 0 ( [])) one_pixel 0 0 ≡ black
+nothing_shows_black : shows (plain 0 ([])) one_pixel 0 0 ≡ black
 unfolding u8_at u16_at u32_at u64_at i32_at record_count record_at point_of class_byte withheld_of has class_at classes passes spot is_candidate candidates depth_of nearest colour pixel
 nothing_shows_black = refl
 
@@ -84,6 +87,7 @@ depth_is_counted_in_units = refl
 a_column_is_rounded_down : shows (plain 1 ((at (negsuc 0) (pos 0) (pos 2), 2) ∷ [])) (record one_pixel { kind = perspective; width = 2; near = 1 }) 0 0 ≡ class_2
 unfolding u8_at u16_at u32_at u64_at i32_at record_count record_at point_of class_byte withheld_of has class_at classes passes spot is_candidate candidates depth_of nearest colour pixel
 a_column_is_rounded_down = refl
+
 a_column_is_rounded_down_1 : shows (plain 1 ((at (negsuc 0) (pos 0) (pos 2), 2) ∷ [])) (record one_pixel { kind = perspective; width = 2; near = 1 }) 1 0 ≡ black
 unfolding u8_at u16_at u32_at u64_at i32_at record_count record_at point_of class_byte withheld_of has class_at classes passes spot is_candidate candidates depth_of nearest colour pixel
 a_column_is_rounded_down_1 = refl
@@ -96,15 +100,24 @@ the_last_depth_is_not_in_view = refl
 -- the camera of the largest products
 abbrev widest : Lens
 widest = record {
-  kind = orthographic; width = 768; height = 1; eye = at (pos 2147483647) (pos 2147483647) (pos 2147483647);
-  right = at (negsuc 32767) (negsuc 32767) (negsuc 32767); down = at (pos 0) (pos 0) (pos 0); forward = at (negsuc 32767) (negsuc 32767) (negsuc 32767);
-  scale = 1099511627776; unit = 1099511627776; near = 0; far = 4294967294
+  kind = orthographic;
+  width = 768;
+  height = 1;
+  eye = at (pos 2147483647) (pos 2147483647) (pos 2147483647);
+  right = at (negsuc 32767) (negsuc 32767) (negsuc 32767);
+  down = at (pos 0) (pos 0) (pos 0);
+  forward = at (negsuc 32767) (negsuc 32767) (negsuc 32767);
+  scale = 1099511627776;
+  unit = 1099511627776;
+  near = 0;
+  far = 4294967294;
 }
 
 -- three products of 2^15 and 2^32 in one sum
 the_largest_products_do_not_wrap : shows (plain 1 ((at (negsuc 2147483647) (negsuc 2147483647) (negsuc 2147483647), 2) ∷ [])) widest 767 0 ≡ class_2
 unfolding u8_at u16_at u32_at u64_at i32_at record_count record_at point_of class_byte withheld_of has class_at classes passes spot is_candidate candidates depth_of nearest colour pixel
 the_largest_products_do_not_wrap = refl
+
 the_largest_products_do_not_wrap_1 : shows (plain 1 ((at (negsuc 2147483647) (negsuc 2147483647) (negsuc 2147483647), 2) ∷ [])) widest 766 0 ≡ black
 unfolding u8_at u16_at u32_at u64_at i32_at record_count record_at point_of class_byte withheld_of has class_at classes passes spot is_candidate candidates depth_of nearest colour pixel
 the_largest_products_do_not_wrap_1 = refl

@@ -1,2 +1,10 @@
 pub mod Reading
+pub mod Nearest
+pub mod Law
+pub mod Rows
+pub mod Spots
+pub mod Passing
+pub mod Words
+pub mod Plotting
+pub mod Colours
 pub mod Examples

@@ -1,5 +1,5 @@
 -- Integer cameras: where a point falls in a picture, over whole numbers without bound.
-use Rattle.std.specs.Prelude.{ℕ, suc, zero, ◌/◌, ◌+◌, ◌*◌, ◌-◌, ◌^◌, ◌&&◌, nat_lt, nat_le, if◌then◌else◌, ℤ, pos, negsuc, ◌+ℤ◌, ◌-ℤ◌, ◌*ℤ◌, neg_ℤ, List, [], ◌∷◌, Option, Some, None}
+use Rattle.std.specs.Prelude.{ℕ, suc, zero, ◌/◌, ◌+◌, ◌*◌, ◌&&◌, nat_lt, nat_le, if◌then◌else◌, ℤ, pos, negsuc, ◌+ℤ◌, ◌-ℤ◌, ◌*ℤ◌, Option, Some, None}
 use Rattle.view_base.specs.declared.place.Point.{Point}
 
 -- how a camera maps points: parallel to its forward vector, or through its eye

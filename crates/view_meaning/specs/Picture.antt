@@ -1,12 +1,12 @@
 -- The picture of a survey: each pixel shows the nearest record that falls on it.
-use Rattle.std.specs.Prelude.{◌≡◌, ℕ, ◌+◌, ◌*◌, ◌/◌, ◌%◌, ◌<◌, ◌≤◌, ◌⊎◌, ◌==◌, ◌&&◌, nat_lt, nat_le, min, if◌then◌else◌, Bool, true, false, IsTrue, List, [], ◌∷◌, ◌++◌, filter, codes, slice_index, Option, Some, None}
+use Rattle.std.specs.Prelude.{◌≡◌, ℕ, ◌+◌, ◌*◌, ◌/◌, ◌%◌, ◌<◌, ◌≤◌, ◌⊎◌, ◌==◌, ◌&&◌, nat_lt, min, if◌then◌else◌, Bool, false, IsTrue, List, [], ◌∷◌, ◌++◌, filter, codes, slice_index, Option, Some, None}
 use Rattle.std.specs.List.{range_with_len, flat_map}
 use Rattle.std.specs.Fmt.{decimal}
 use Rattle.view_base.specs.declared.colour.Rgb.{Rgb}
 use Rattle.view_base.specs.declared.colour.Colouring as colouring
 use Rattle.view_base.specs.declared.colour.Colouring.TheVariants.{Class, Rgb16, Rgb8, Intensity}
 use Rattle.view_meaning.specs.Survey.{record_count, format_of, point_of, record_at, rgb_place, rgb_at, intensity_of}
-use Rattle.view_meaning.specs.Classes.{Filter, passes}
+use Rattle.view_meaning.specs.Classes.{Filter, all_classes, passes}
 use Rattle.view_meaning.specs.Camera.{Lens, Spot, spot}
 
 -- what a picture is of: a camera, where the colours come from, and which records show
@@ -99,9 +99,23 @@ picture_row b cs view y = flat_map (λ x. pixel b cs view x y) (range_with_len 0
 unfoldable pub picture : List ℕ → List ℕ → View → List ℕ
 picture b cs view = ppm_header view.camera.width view.camera.height ++ flat_map (picture_row b cs view) (range_with_len 0 view.camera.height)
 
--- what it is to be the nearest: a candidate, and each candidate is deeper, or as deep and no earlier
+-- record i is the nearest of a pixel: a candidate, and each candidate is deeper, or as deep and no lower
+-- in number
 pub record IsNearest (b cs : List ℕ) (view : View) (x y i : ℕ) : Type 0 where
-  pub is_one : IsTrue (is_candidate b cs view x y i)
   pub counts : i < record_count b
+  pub falls : IsTrue (is_candidate b cs view x y i)
   pub least : (j : ℕ) → j < record_count b → IsTrue (is_candidate b cs view x y j)
       → (depth_of b view i < depth_of b view j) ⊎ ((depth_of b view i ≡ depth_of b view j) × (i ≤ j))
+
+-- no record passes and falls on a pixel
+abbrev pub NoneFalls : List ℕ → List ℕ → View → ℕ → ℕ → Type 0
+NoneFalls b cs view x y = (j : ℕ) → j < record_count b → IsTrue (is_candidate b cs view x y j) → ⊥
+
+-- a pixel shows its nearest record, or none where none falls on it
+abbrev pub Shows : List ℕ → List ℕ → View → ℕ → ℕ → Option ℕ → Type 0
+Shows b cs view x y None = NoneFalls b cs view x y
+Shows b cs view x y (Some i) = IsNearest b cs view x y i
+
+-- the view of all records by class
+abbrev pub by_class : Lens → View
+by_class lens = record { camera = lens; colouring = Class; filter = record { classes = all_classes; hide_withheld = false } }

@@ -1,4 +1,4 @@
-use Rattle.std.proofs.Common.{ℕ, arith}
+use Rattle.std.proofs.Common.{arith}
 use Rattle.std.proofs.lemmas.Grind.{common_steps}
 use Rattle.view_ends.proofs.Pieces.{gains_take}
 use Rattle.view_ends.proofs.giving.give_all.Goals as goal

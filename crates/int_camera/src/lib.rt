@@ -1,0 +1,13 @@
+//! Integer cameras: the numbers that describe one, their ranges, and where a point falls in its
+//! picture.
+#![tactic(auto)]
+
+mod camera;
+mod numbers;
+mod projection;
+#[cfg(test)]
+mod tests;
+
+pub use camera::Camera;
+pub use numbers::{CameraLimit, CameraNumbers, Kind};
+pub use projection::{Spot, project};

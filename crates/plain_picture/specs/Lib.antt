@@ -1,0 +1,2 @@
+pub mod Plotted
+pub mod Names

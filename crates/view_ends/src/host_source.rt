@@ -1,0 +1,103 @@
+ghost use Rattle.std.specs.Prelude.{◌≡◌, ◌+◌, ◌-◌, ◌^◌, ◌<◌, ◌≤◌, min, None};
+ghost use Rattle.std.specs.Io.{ReadsAtMost};
+
+use crate::fault::Failed;
+use crate::source::Source;
+use std::io;
+use std::io::{Error, ErrorKind, Read};
+
+/// How many bytes are taken from one input at most: a take after as many fails.
+const MOST_TAKEN: u64 = 1 << 63;
+
+/// Where the bytes come from: a file, or standard input.
+#[derive(Drop)]
+pub(crate) enum Origin<F, I> {
+    File(F),
+    Standard(I),
+}
+
+impl<F: Read, I: Read> Origin<F, I> {
+    /// One read, made again as long as signals cut it short.
+    fn read_again(&mut self, buf: &mut [u8]) -> io::Result<usize>
+        ensures { ReadsAtMost result buf.new }
+    {
+        for _ in 0..u64::MAX {
+            let answer = match self {
+                Origin::File(file) => file.read(buf),
+                Origin::Standard(input) => input.read(buf),
+            };
+            match answer {
+                Err(error) if error.kind() == ErrorKind::Interrupted => {}
+                answer => return answer,
+            }
+        }
+        Err(Error::from(ErrorKind::Interrupted))
+    }
+}
+
+/// An opened input of the system, without a buffer. It tells no bytes, counts each error as a
+/// fault, and reads again where a signal cut a read short.
+#[derive(Drop)]
+pub struct HostSource<F, I> {
+    origin: Origin<F, I>,
+    taken: u64,
+    faults: u64,
+    ghost most: { taken ≤ 2 ^ 63 },
+}
+
+impl<F: Read, I: Read> HostSource<F, I> {
+    pub(crate) fn new(origin: Origin<F, I>) -> HostSource<F, I>
+        ensures taken { result.taken ≡ 0 }
+        ensures faults { result.faults ≡ 0 }
+    {
+        HostSource {
+            origin,
+            taken: 0,
+            faults: 0,
+        }
+    }
+
+    pub(crate) fn taken(&self) -> u64
+        ensures { result ≡ self.now.taken }
+    {
+        self.taken
+    }
+
+    fn fail(&mut self) -> Failed
+        ensures faults { self.new.faults ≡ min (self.old.faults + 1) (2 ^ 64 - 1) }
+        ensures fits { self.old.faults < 2 ^ 64 }
+        ensures taken { self.new.taken ≡ self.old.taken }
+    {
+        self.faults = self.faults.saturating_add(1);
+        Failed
+    }
+
+    pub(crate) fn faults(&self) -> u64
+        ensures { result ≡ self.now.faults }
+    {
+        self.faults
+    }
+}
+
+impl<F: Read, I: Read> Source for HostSource<F, I> {
+    ghost left = { λ _. None };
+
+    ghost taken = { λ s. s.taken };
+
+    ghost faults = { λ s. s.faults };
+
+    fn take(&mut self, buf: &mut [u8]) -> Result<usize, Failed> {
+        let room = MOST_TAKEN - self.taken;
+        let most = buf.len().min(room as usize);
+        if room == 0 {
+            return Err(self.fail());
+        }
+        match self.origin.read_again(&mut buf[..most]) {
+            Ok(n) => {
+                self.taken += n as u64;
+                Ok(n)
+            }
+            Err(_) => Err(self.fail()),
+        }
+    }
+}

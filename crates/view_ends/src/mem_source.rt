@@ -1,0 +1,86 @@
+ghost use Rattle.std.specs.Prelude.{◌≡◌, Some};
+
+use crate::failing::{Failing, Places};
+use crate::fault::Failed;
+use crate::source::Source;
+use crate::still_source::StillSource;
+use view_base::Bytes;
+
+/// Bytes in memory that fail where a test says.
+#[derive(Drop)]
+pub struct MemSource {
+    still: StillSource,
+    failing: Failing,
+    faults: u64,
+}
+
+impl MemSource {
+    /// A source of these bytes. For each place in `fail_at`, one take made when just that many
+    /// bytes were taken fails, the first of them, and no take gives bytes past the next place.
+    pub fn new(bytes: Bytes, fail_at: Places) -> MemSource
+        ensures left { ⟦<MemSource as Source>⟧.left result ≡ Some bytes.items }
+        ensures taken { ⟦<MemSource as Source>⟧.taken result ≡ 0 }
+        ensures faults { ⟦<MemSource as Source>⟧.faults result ≡ 0 }
+    {
+        MemSource {
+            still: StillSource::new(bytes),
+            failing: Failing::new(fail_at),
+            faults: 0,
+        }
+    }
+
+    /// How many bytes were taken.
+    pub fn taken(&self) -> u64
+        ensures { result ≡ ⟦<MemSource as Source>⟧.taken self.now }
+    {
+        self.still.taken()
+    }
+
+    /// How many takes failed.
+    pub fn faults(&self) -> u64
+        ensures { result ≡ ⟦<MemSource as Source>⟧.faults self.now }
+    {
+        self.faults
+    }
+}
+
+impl Source for MemSource {
+    ghost left = { λ s. ⟦<StillSource as Source>⟧.left s.still };
+
+    ghost taken = { λ s. ⟦<StillSource as Source>⟧.taken s.still };
+
+    ghost faults = { λ s. s.faults };
+
+    fn take(&mut self, buf: &mut [u8]) -> Result<usize, Failed> {
+        let at = self.still.taken();
+        if self.failing.strike(at) {
+            self.faults = self.faults.saturating_add(1);
+            return Err(Failed);
+        }
+        let most = self.failing.room(at, buf.len());
+        let n = self.still.take(&mut buf[..most])?;
+        Ok(n)
+    }
+}
+
+#[cfg(test)]
+mod tests {
+    use super::*;
+    use std::test::Fail;
+
+    #[test]
+    fn a_take_stops_at_the_place_that_fails(rt: HostRuntime) -> Result<(), Fail> {
+        let mut bytes = Bytes::new(rt.alloc());
+        bytes.append(b"bytes")?;
+        let mut fail_at = Places::new(rt.alloc());
+        fail_at.push(3)?;
+        let mut source = MemSource::new(bytes, fail_at);
+        let mut buf = [0; 8];
+        assert_eq!(rt; source.take(&mut buf), Ok(3));
+        assert_eq!(rt; source.take(&mut buf), Err(Failed));
+        assert_eq!(rt; source.take(&mut buf), Ok(2));
+        assert_eq!(rt; &buf[..2], b"es".as_slice());
+        assert_eq!(rt; source.take(&mut buf), Ok(0));
+        Ok(())
+    }
+}

@@ -1,0 +1,84 @@
+ghost use Rattle.std.specs.Prelude.{◌≡◌, ◌++◌, ◌∷◌, [], ℕ, List, IsTrue, OnOk, OnErr, IfOk};
+
+use crate::failing::Places;
+use std::alloc::Global;
+use view_base::OutOfMemory;
+
+/// A call that a test can let fail.
+#[derive(Clone, Copy, Debug, PartialEq, Eq)]
+pub enum DeskCall {
+    /// The opening of an input.
+    OpenIn,
+    /// The opening of an output.
+    OpenOut,
+    /// The keeping of an output.
+    Keep,
+    /// A take from an input, at a place in its bytes.
+    Take,
+    /// A give to an output, at a place in its bytes.
+    Give,
+}
+
+/// One call that is to fail.
+#[derive(Drop)]
+struct Plan {
+    name: String,
+    call: DeskCall,
+    at: u64,
+}
+
+impl Plan {
+    fn is_for(&self, name: &str, call: DeskCall) -> bool {
+        self.call == call && self.name.as_str() == name
+    }
+}
+
+/// The calls that have yet to fail.
+#[derive(Drop)]
+pub(crate) struct Plans {
+    alloc: Global,
+    plans: Vec<Plan>,
+}
+
+impl Plans {
+    pub(crate) fn new(alloc: Global) -> Plans {
+        Plans {
+            alloc,
+            plans: Vec::new(alloc),
+        }
+    }
+
+    /// Plans that one more call of this name fails.
+    pub(crate) fn add(&mut self, name: &str, call: DeskCall, at: u64) -> Result<(), OutOfMemory> {
+        let name = String::from_str(self.alloc, name)?;
+        self.plans.push(Plan { name, call, at })?;
+        Ok(())
+    }
+
+    /// Whether this call fails. Each plan fails one call.
+    pub(crate) fn strike(&mut self, name: &str, call: DeskCall) -> bool {
+        match self.plans.iter().position(|plan| plan.is_for(name, call)) {
+            Some(i) => {
+                let _ = self.plans.remove(i);
+                true
+            }
+            None => false,
+        }
+    }
+
+    /// The places at which takes or gives of this name are to fail.
+    pub(crate) fn places(&self, name: &str, call: DeskCall) -> Result<Places, OutOfMemory> {
+        let mut places = Places::new(self.alloc);
+        for plan in &self.plans {
+            if plan.is_for(name, call) {
+                places.push(plan.at)?;
+            }
+        }
+        Ok(places)
+    }
+
+    /// Drops what was planned of this call of this name.
+    pub(crate) fn forget(&mut self, name: &str, call: DeskCall) {
+        self.plans.retain(|plan| !plan.is_for(name, call));
+    }
+}
