@@ -31,7 +31,7 @@ fits place word =
 -- how many words from this place on fit, before the first that doesn't
 abbrev pub fitting : ℕ → List (List ℕ) → ℕ
 fitting place [] = 0
-fitting place (word ∷ others) = if fits place word then 1 + fitting (1 + place) others else 0
+fitting place (word ∷ others) = if fits place word then 1 + fitting (place + 1) others else 0
 
 -- why words are no edit line, if they are none: nine words that all fit are one, and else the fault
 -- is at the first that doesn't fit, or after the last
@@ -46,13 +46,20 @@ coordinate_at line place = unwrap_or (coordinate (slice_index_or line place []))
 abbrev pub point_at : List (List ℕ) → ℕ → Point
 point_at line place = record { x = coordinate_at line place; y = coordinate_at line (place + 1); z = coordinate_at line (place + 2) }
 
+-- the set of classes that the word at a place lists
+abbrev pub classes_at : List (List ℕ) → ℕ → List ℕ
+classes_at line place = unwrap_or (class_list (slice_index_or line place [])) no_classes
+
+-- the number that the digits at a place are
+abbrev pub digits_at : List (List ℕ) → ℕ → ℕ
+digits_at line place = unwrap_or (digits (slice_index_or line place [])) 0
+
 -- the edit that nine fitting words are, or the fault that its class is above the format's greatest
 abbrev pub ranged_edit : List (List ℕ) → ℕ → Result meaning.Edit EditFault
 ranged_edit line format =
-    let to = unwrap_or (digits (slice_index_or line 8 [])) 0 in
-    if nat_le to (meaning.top_class format)
-    then Ok (record { area = record { min = point_at line 1; max = point_at line 4 }; from = unwrap_or (class_list (slice_index_or line 7 [])) no_classes; to = to })
-    else Err (ClassRange (pos to))
+    if nat_le (digits_at line 8) (meaning.top_class format)
+    then Ok (record { area = record { min = point_at line 1; max = point_at line 4 }; from = classes_at line 7; to = digits_at line 8 })
+    else Err (ClassRange (pos (digits_at line 8)))
 
 -- what this fault makes of an edit
 abbrev pub unless_fault : Option EditFault → Result meaning.Edit EditFault → Result meaning.Edit EditFault
