@@ -1,0 +1,100 @@
+ghost use Rattle.std.specs.Prelude.{◌≡◌, ◌<◌, ◌≤◌, length, IfSome};
+ghost use Rattle.std.specs.List.{position};
+ghost use Rattle.class_bits.specs.ClassSet.{IsClassSet, members};
+ghost use Rattle.class_bits.specs.ClassList.{class_list, is_dash, item_range, range_of};
+
+use crate::class_set::ClassSet;
+use view_base::read_digits;
+
+/// The place of the first dash of an item.
+fn first_dash(item: &[u8]) -> Option<usize>
+    ensures { result ≡ position is_dash item.now }
+{
+    item.iter().position(|byte| *byte == b'-')
+}
+
+/// The range from one number to another, or `None` where one is missing, they fall, or the last
+/// is above 255.
+fn range(first: Option<u128>, last: Option<u128>) -> Option<(u8, u8)>
+    ensures value { result ≡ range_of first last }
+    ensures rises { IfSome result (λ r. r.0 ≤ r.1) }
+{
+    let first = first?;
+    let last = last?;
+    if first > last || last > 255 {
+        return None;
+    }
+    Some((first as u8, last as u8))
+}
+
+/// The range of an item of a class list, or `None` where it is no item.
+fn read_item(item: &[u8]) -> Option<(u8, u8)>
+    ensures value { result ≡ item_range item.now }
+    ensures rises { IfSome result (λ r. r.0 ≤ r.1) }
+{
+    match first_dash(item) {
+        Some(dash) => range(read_digits(&item[..dash]), read_digits(&item[dash + 1..])),
+        None => {
+            let only = read_digits(item);
+            range(only, only)
+        }
+    }
+}
+
+/// The set that a class list names, or `None` where the word is no class list. A class list is
+/// `all`, or items joined by single commas: `a`, or `a-b` with `a` at most `b`, each 1 to 20
+/// decimal digits with a value of at most 255.
+pub fn read_classes(word: &[u8]) -> Option<ClassSet>
+    ensures value { result ≡ class_list word.now }
+    ensures words { IfSome result IsClassSet }
+    ensures some { IfSome result (λ classes. 0 < length (members classes)) }
+{
+    if word == b"all".as_slice() {
+        return Some(ClassSet::all());
+    }
+    let mut classes = ClassSet::empty();
+    for item in word.split(|byte| *byte == b',') {
+        let (first, last) = read_item(item)?;
+        classes.add_range(first, last);
+    }
+    Some(classes)
+}
+
+#[cfg(test)]
+mod tests {
+    use super::*;
+
+    #[test]
+    fn a_class_list_names_the_classes_of_its_items(rt: HostRuntime) {
+        for (word, class, has) in [
+            (b"all".as_slice(), 255, true),
+            (b"3,1-2".as_slice(), 3, true),
+            (b"3,1-2".as_slice(), 2, true),
+            (b"3,1-2".as_slice(), 4, false),
+            (b"007".as_slice(), 7, true),
+            (b"9-18".as_slice(), 18, true),
+            (b"9-18".as_slice(), 8, false),
+        ] {
+            let named = read_classes(word).map(|classes| classes.has(class));
+            assert_eq!(rt; named, Some(has));
+        }
+    }
+
+    #[test]
+    fn other_words_are_no_class_lists(rt: HostRuntime) {
+        for word in [
+            b"".as_slice(),
+            b"5-3".as_slice(),
+            b"3,,4".as_slice(),
+            b"3,".as_slice(),
+            b"256".as_slice(),
+            b"-1".as_slice(),
+            b"1-2-3".as_slice(),
+            b"+1".as_slice(),
+            b"All".as_slice(),
+            b"000000000000000000001".as_slice(),
+        ] {
+            assert!(rt; read_classes(word).is_none());
+        }
+    }
+}

@@ -1,0 +1,10 @@
+//! Edits of classes: what an edit changes, and the line of text that stands for it.
+#![tactic(auto)]
+
+mod edit;
+mod fault;
+mod reading;
+
+pub use edit::{Edit, applies};
+pub use fault::EditFault;
+pub use reading::read_edit;
