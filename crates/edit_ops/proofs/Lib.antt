@@ -1,3 +1,6 @@
+pub mod CanonicalLine
 pub mod Coordinates
 pub mod EditOf
 pub mod LineWords
+pub mod ListText
+pub mod RunsOf
