@@ -15,7 +15,7 @@ unfolding coordinate
 coordinate-number word z some = rw some refl
 
 -- a number that fits 32 bits is a coordinate, and another is none
-in_32_bits-fits : (z : ℤ) → FitsSigned w32 z → in_32_bits z ≡ Some z
+pub in_32_bits-fits : (z : ℤ) → FitsSigned w32 z → in_32_bits z ≡ Some z
 in_32_bits-fits (pos n) h = rw (le-leb n 2147483647 (omega (arith, h.sfits))) refl
 in_32_bits-fits (negsuc n) h = rw (le-leb n 2147483647 (omega (arith, h.sfits))) refl
 

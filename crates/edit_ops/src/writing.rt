@@ -1,5 +1,9 @@
-ghost use Rattle.std.specs.Prelude.{◌≡◌, ◌+◌, ◌≤◌, ◌++◌, ◌∷◌, [], length, decimal, OnOk, OnErr, if◌then◌else◌};
+ghost use Rattle.std.specs.Prelude.{◌≡◌, ℕ, ◌+◌, ◌≤◌, ◌++◌, ◌∷◌, [], length, decimal, Ok, OnOk, OnErr, FitsSigned, if◌then◌else◌};
 ghost use Rattle.std.specs.Fmt.{signed_decimal};
+ghost use Rattle.std.specs.Int.{w32};
+ghost use Rattle.view_meaning.specs.Classes.{top_class};
+ghost use Rattle.edit_ops.specs.Edit.{IsPoint};
+ghost use Rattle.edit_ops.specs.EditLine.{edit_of};
 ghost use Rattle.edit_ops.specs.Canonical.{run_text, classes_text, canonical};
 
 use crate::edit::Edit;
@@ -20,6 +24,8 @@ const LINE: usize = 4 + 6 * 12 + 1 + LIST + 4;
 pub fn edit_text(edit: &Edit, out: &mut Bytes) -> Result<(), OutOfMemory>
     ensures appended { OnOk result (out.new.items ≡ out.old.items ++ canonical edit.now) }
     ensures refused { OnErr result (out.new.items ≡ out.old.items) }
+    ensures reads_back { OnOk result ((format : ℕ) → edit.now.to ≤ top_class format
+        → edit_of (canonical edit.now) format ≡ Ok edit.now) }
 {
     out.reserve(LINE)?;
     append(out, b"edit");
@@ -40,6 +46,7 @@ fn append_corner(out: &mut Bytes, corner: Point)
         ++ (32 ∷ signed_decimal corner.y)
         ++ (32 ∷ signed_decimal corner.z) }
     ensures room { out.old.spare ≤ out.new.spare + 36 }
+    ensures corner { IsPoint corner }
 {
     append_coordinate(out, corner.x);
     append_coordinate(out, corner.y);
@@ -51,6 +58,7 @@ fn append_coordinate(out: &mut Bytes, number: i32)
     requires { 12 ≤ out.old.spare }
     ensures appended { out.new.items ≡ out.old.items ++ (32 ∷ signed_decimal number) }
     ensures room { out.old.spare ≤ out.new.spare + 12 }
+    ensures fits { FitsSigned w32 number }
 {
     let mut digits = Buffer::new();
     append(out, b" ");
@@ -62,6 +70,7 @@ fn append_class(out: &mut Bytes, class: u8)
     requires { 3 ≤ out.old.spare }
     ensures appended { out.new.items ≡ out.old.items ++ decimal class }
     ensures room { out.old.spare ≤ out.new.spare + 3 }
+    ensures class { class ≤ 255 }
 {
     let mut digits = Buffer::new();
     append(out, digits.format(class).as_bytes());
