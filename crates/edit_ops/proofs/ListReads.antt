@@ -27,8 +27,9 @@ decimal-fails p digit n low k d inside = let here = digit_at n k d (omega arith)
 run_text-clear : (p : ℕ → Bool) → ((c : ℕ) → 48 ≤ c → c ≤ 57 → p c ≡ false) → p 45 ≡ false → (run : ℕ × ℕ) → run.0 ≤ 255 → run.1 ≤ 255 → All (λ c. p c ≡ false) (run_text run)
 run_text-clear p digit dash run low high =
     elim (cases_Bool (eqb run.0 run.1)) as (λ _. All (λ c. p c ≡ false) (run_text run)) [
-        inl same ↦ rw same (decimal-fails p digit run.0 low)
-      | inr apart ↦ rw apart (All-append (λ c. p c ≡ false) (decimal run.0) (45 ∷ decimal run.1) (decimal-fails p digit run.0 low) (All-cons p 45 (decimal run.1) dash (decimal-fails p digit run.1 high))) ]
+      | inl same ↦ rw same (decimal-fails p digit run.0 low)
+      | inr apart ↦ rw apart (All-append (λ c. p c ≡ false) (decimal run.0) (45 ∷ decimal run.1) (decimal-fails p digit run.0 low) (All-cons p 45 (decimal run.1) dash (decimal-fails p digit run.1 high)))
+    ]
 
 -- a text begins with a digit
 pub record IsDigitFirst (text : List ℕ) : Type 0 where
@@ -42,7 +43,7 @@ first_kept text more first =
     record {
       some = omega (arith, first.some, length-append text more);
       least = rw same first.least;
-      greatest = rw same first.greatest
+      greatest = rw same first.greatest;
     }
 
 decimal-first : (n : ℕ) → n ≤ 255 → IsDigitFirst (decimal n)
@@ -54,8 +55,9 @@ decimal-first n low =
 run_text-first : (run : ℕ × ℕ) → run.0 ≤ 255 → IsDigitFirst (run_text run)
 run_text-first run low =
     elim (cases_Bool (eqb run.0 run.1)) as (λ _. IsDigitFirst (run_text run)) [
-        inl same ↦ rw same (decimal-first run.0 low)
-      | inr apart ↦ rw apart (first_kept (decimal run.0) (45 ∷ decimal run.1) (decimal-first run.0 low)) ]
+      | inl same ↦ rw same (decimal-first run.0 low)
+      | inr apart ↦ rw apart (first_kept (decimal run.0) (45 ∷ decimal run.1) (decimal-first run.0 low))
+    ]
 
 not_all : (text : List ℕ) → get_or text 0 0 ≢ 97 → bytes_eq text (codes "all") ≡ false
 not_all [] other = refl
@@ -80,8 +82,9 @@ onto_run-some : (class : ℕ) (rs : List (ℕ × ℕ)) → 0 < length (onto_run 
 onto_run-some class [] = omega arith
 onto_run-some class (run ∷ rs) =
     elim (cases_Bool (eqb run.0 (class + 1))) as (λ _. 0 < length (onto_run class (run ∷ rs))) [
-        inl next ↦ rw next (omega arith)
-      | inr apart ↦ rw apart (omega arith) ]
+      | inl next ↦ rw next (omega arith)
+      | inr apart ↦ rw apart (omega arith)
+    ]
 
 runs-some : (cs : List ℕ) → 0 < length cs → 0 < length (runs cs)
 runs-some [] some = absurd (omega arith)
@@ -103,11 +106,12 @@ ranges-members set = runs-ranges set 256 0 (omega arith)
 pub class_list-classes_text : (set : List ℕ) → IsClassSet set → 0 < length (members set) → class_list (classes_text set) ≡ Some set
 class_list-classes_text set is some =
     elim (cases_Bool (bytes_eq set all_classes)) [
-        inl all ↦ ap class_list (classes_text-all set all) ∙ class_list-all (codes "all") refl ∙ ap Some (sym ((bytes_eq-Decides set all_classes).0 all))
+      | inl all ↦ ap class_list (classes_text-all set all) ∙ class_list-all (codes "all") refl ∙ ap Some (sym ((bytes_eq-Decides set all_classes).0 all))
       | inr part ↦
-            ap class_list (classes_text-runs set part ∙ ap (λ classes. join_with_byte 44 (map run_text (runs classes))) (members-from_0 set))
-            ∙ class_list-runs (runs (members set)) (runs-some (members set) some) (ranges-members set)
-            ∙ ap Some (sym (set_of-has set (in_ranges (runs (members set))) is (λ c below. sym (in_runs-members set c below)))) ]
+          ap class_list (classes_text-runs set part ∙ ap (λ classes. join_with_byte 44 (map run_text (runs classes))) (members-from_0 set))
+          ∙ class_list-runs (runs (members set)) (runs-some (members set) some) (ranges-members set)
+          ∙ ap Some (sym (set_of-has set (in_ranges (runs (members set))) is (λ c below. sym (in_runs-members set c below))))
+    ]
 
 -- joined texts have no byte that passes where the texts and the separator have none
 join-clear : (p : ℕ → Bool) (c : ℕ) → p c ≡ false → (texts : List (List ℕ)) → AllClear p texts → All (λ b. p b ≡ false) (join_with_byte c texts)
@@ -126,8 +130,9 @@ runs-text set part = classes_text-runs set part ∙ ap (λ classes. join_with_by
 pub classes_text-clear : (set : List ℕ) → All (λ c. is_blank c ≡ false) (classes_text set)
 classes_text-clear set =
     elim (cases_Bool (bytes_eq set all_classes)) [
-        inl all ↦ rw (classes_text-all set all) all-clear
-      | inr part ↦ rw (runs-text set part) (join-clear is_blank 44 refl (map run_text (runs (members set))) (run_texts-clear is_blank digit_clear refl (runs (members set)) (ranges-members set))) ]
+      | inl all ↦ rw (classes_text-all set all) all-clear
+      | inr part ↦ rw (runs-text set part) (join-clear is_blank 44 refl (map run_text (runs (members set))) (run_texts-clear is_blank digit_clear refl (runs (members set)) (ranges-members set)))
+    ]
 
 joined-some : (rs : List (ℕ × ℕ)) → 0 < length rs → AreRanges rs → 0 < length (join_with_byte 44 (map run_text rs))
 joined-some [] some are = absurd (omega arith)
@@ -136,5 +141,6 @@ joined-some (run ∷ rs) some are = (list_first run rs (omega (arith, are.0.0, a
 pub classes_text-some : (set : List ℕ) → 0 < length (members set) → 0 < length (classes_text set)
 classes_text-some set some =
     elim (cases_Bool (bytes_eq set all_classes)) [
-        inl all ↦ rw (classes_text-all set all) (omega arith)
-      | inr part ↦ rw (runs-text set part) (joined-some (runs (members set)) (runs-some (members set) some) (ranges-members set)) ]
+      | inl all ↦ rw (classes_text-all set all) (omega arith)
+      | inr part ↦ rw (runs-text set part) (joined-some (runs (members set)) (runs-some (members set) some) (ranges-members set))
+    ]

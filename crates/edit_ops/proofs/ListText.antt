@@ -30,8 +30,9 @@ pub text_from-more : (run : ℕ × ℕ) (rs : List (ℕ × ℕ)) (from : ℕ) �
 text_from-more run rs from =
     let rest : text_from (run.1 + 1) rs ≡ after_comma rs = rw (ne_eqb (run.1 + 1) 0 (λ e. omega arith)) refl in
     elim (cases_Bool (eqb from 0)) [
-        inl first ↦ rw (first, rest) (join-first run rs)
-      | inr later ↦ rw (later, rest) refl ]
+      | inl first ↦ rw (first, rest) (join-first run rs)
+      | inr later ↦ rw (later, rest) refl
+    ]
 
 pub text_from-none : (from : ℕ) → text_from from [] ≡ []
 text_from-none from = elim (cases_Bool (eqb from 0)) [ inl first ↦ rw first refl | inr later ↦ rw later refl ]

@@ -30,8 +30,9 @@ onto_run-after : (class : ℕ) (others : List (ℕ × ℕ)) → IsAfter class (o
 onto_run-after class [] = omega arith
 onto_run-after class (run ∷ others) =
     elim (cases_Bool (eqb run.0 (class + 1))) as (λ _. IsAfter class (onto_run class (run ∷ others))) [
-        inl next ↦ rw next (omega arith)
-      | inr apart ↦ rw apart (omega arith) ]
+      | inl next ↦ rw next (omega arith)
+      | inr apart ↦ rw apart (omega arith)
+    ]
 
 IsAfter-less : (class least : ℕ) (rs : List (ℕ × ℕ)) → least ≤ class → IsAfter class rs → IsAfter least rs
 IsAfter-less class least [] low after = tt
@@ -41,8 +42,9 @@ runs-after : (set : List ℕ) (n class : ℕ) → IsAfter class (runs (filter (h
 runs-after set zero class = tt
 runs-after set (suc n) class =
     elim (cases_Bool (has set class)) [
-        inl there ↦ rw there (onto_run-after class (runs (filter (has set) (range_with_len (class + 1) n))))
-      | inr apart ↦ rw apart (IsAfter-less (class + 1) class _ (omega arith) (runs-after set n (class + 1))) ]
+      | inl there ↦ rw there (onto_run-after class (runs (filter (has set) (range_with_len (class + 1) n))))
+      | inr apart ↦ rw apart (IsAfter-less (class + 1) class _ (omega arith) (runs-after set n (class + 1)))
+    ]
 
 runs_from-after : (set : List ℕ) (class : ℕ) → IsAfter class (runs (members_from set class))
 unfolding members_from
@@ -61,11 +63,12 @@ last_alone : (set : List ℕ) (last : ℕ) → last < 256 → has set last ≡ t
 last_alone set last below there ends =
     let cut : runs (members_from set last) ≡ onto_run last (runs (members_from set (last + 1))) = ap runs (members_from-in set last below there) in
     elim (cases_eq last 255) [
-        inl top ↦ cut ∙ rw (top, members_from-end) refl
+      | inl top ↦ cut ∙ rw (top, members_from-end) refl
       | inr more ↦
-            let skipped = members_from-out set (last + 1) (omega arith) (ends (omega arith)) in
-            let two : last + 1 + 1 ≡ last + 2 = omega arith in
-            cut ∙ onto_run-alone last _ (rw (skipped, two) (runs_from-after set (last + 2))) ]
+          let skipped = members_from-out set (last + 1) (omega arith) (ends (omega arith)) in
+          let two : last + 1 + 1 ≡ last + 2 = omega arith in
+          cut ∙ onto_run-alone last _ (rw (skipped, two) (runs_from-after set (last + 2)))
+    ]
 
 -- the first run from its first class on
 run_from : (set : List ℕ) (n first last : ℕ) → first + n ≡ last → last < 256 → ((c : ℕ) → first ≤ c → c ≤ last → has set c ≡ true) → (last < 255 → has set (last + 1) ≡ false) → runs (members_from set first) ≡ (first, last) ∷ runs (members_from set (last + 1))

@@ -51,8 +51,9 @@ item_range-two a b rises low =
 pub item_range-run_text : (run : ℕ × ℕ) → run.0 ≤ run.1 → run.1 ≤ 255 → item_range (run_text run) ≡ Some run
 item_range-run_text run rises low =
     elim (cases_Bool (eqb run.0 run.1)) [
-        inl same ↦ rw same (item_range-one run.0 (omega arith) ∙ ap (λ last. Some (run.0, last)) (eqb-true run.0 run.1 same))
-      | inr apart ↦ rw apart (item_range-two run.0 run.1 rises low) ]
+      | inl same ↦ rw same (item_range-one run.0 (omega arith) ∙ ap (λ last. Some (run.0, last)) (eqb-true run.0 run.1 same))
+      | inr apart ↦ rw apart (item_range-two run.0 run.1 rises low)
+    ]
 
 pub item_ranges-run_texts : (rs : List (ℕ × ℕ)) → AreRanges rs → item_ranges (map run_text rs) ≡ Some rs
 item_ranges-run_texts [] are = refl
@@ -63,25 +64,30 @@ onto_run-ranges : (class : ℕ) (rs : List (ℕ × ℕ)) → class ≤ 255 → A
 onto_run-ranges class [] low are = ((omega arith, low), tt)
 onto_run-ranges class (run ∷ rs) low are =
     elim (cases_Bool (eqb run.0 (class + 1))) as (λ _. AreRanges (onto_run class (run ∷ rs))) [
-        inl next ↦ let same = eqb-true run.0 (class + 1) next in rw next ((omega (arith, are.0.0), are.0.1), are.1)
-      | inr apart ↦ rw apart ((omega arith, low), are) ]
+      | inl next ↦ let same = eqb-true run.0 (class + 1) next in rw next ((omega (arith, are.0.0), are.0.1), are.1)
+      | inr apart ↦ rw apart ((omega arith, low), are)
+    ]
 
 -- a class lies between a class and a later one where it is the first or lies after it
 between_more : (class last c : ℕ) → class ≤ last → (leb class c && leb c last) ≡ (eqb c class || (leb (class + 1) c && leb c last))
 between_more class last c rises =
     elim (cases_eq c class) [
-        inl same ↦ rw (eq-eqb c class same, le-leb class c (omega arith), le-leb c last (omega arith)) refl
+      | inl same ↦ rw (eq-eqb c class same, le-leb class c (omega arith), le-leb c last (omega arith)) refl
       | inr other ↦ elim (cases_lt c class) [
-            inl below ↦ rw (ne_eqb c class other, lt-leb class c below, lt-leb (class + 1) c (omega arith)) refl
-          | inr above ↦ rw (ne_eqb c class other, le-leb class c above, le-leb (class + 1) c (omega arith)) refl ] ]
+        | inl below ↦ rw (ne_eqb c class other, lt-leb class c below, lt-leb (class + 1) c (omega arith)) refl
+        | inr above ↦ rw (ne_eqb c class other, le-leb class c above, le-leb (class + 1) c (omega arith)) refl
+      ]
+    ]
 
 between_self : (class c : ℕ) → (leb class c && leb c class) ≡ eqb c class
 between_self class c =
     elim (cases_eq c class) [
-        inl same ↦ rw (eq-eqb c class same, le-leb class c (omega arith), le-leb c class (omega arith)) refl
+      | inl same ↦ rw (eq-eqb c class same, le-leb class c (omega arith), le-leb c class (omega arith)) refl
       | inr other ↦ elim (cases_lt c class) [
-            inl below ↦ rw (ne_eqb c class other, lt-leb class c below) refl
-          | inr above ↦ rw (ne_eqb c class other, le-leb class c above, lt-leb c class (omega arith)) refl ] ]
+        | inl below ↦ rw (ne_eqb c class other, lt-leb class c below) refl
+        | inr above ↦ rw (ne_eqb c class other, le-leb class c above, lt-leb c class (omega arith)) refl
+      ]
+    ]
 
 or_assoc : (a b c : Bool) → ((a || b) || c) ≡ (a || (b || c))
 or_assoc true b c = refl
@@ -92,45 +98,51 @@ in_ranges-onto_run : (class : ℕ) (rs : List (ℕ × ℕ)) (c : ℕ) → AreRan
 in_ranges-onto_run class [] c are = ap (λ b. b || false) (between_self class c)
 in_ranges-onto_run class (run ∷ rs) c are =
     elim (cases_Bool (eqb run.0 (class + 1))) [
-        inl next ↦
-            let same = eqb-true run.0 (class + 1) next in
-            rw next (ap (λ b. b || in_ranges rs c) (between_more class run.1 c (omega (arith, are.0.0, same))) ∙ or_assoc (eqb c class) (leb (class + 1) c && leb c run.1) (in_ranges rs c) ∙ rw same refl)
-      | inr apart ↦ rw apart (ap (λ b. b || in_ranges (run ∷ rs) c) (between_self class c)) ]
+      | inl next ↦
+          let same = eqb-true run.0 (class + 1) next in
+          rw next (ap (λ b. b || in_ranges rs c) (between_more class run.1 c (omega (arith, are.0.0, same))) ∙ or_assoc (eqb c class) (leb (class + 1) c && leb c run.1) (in_ranges rs c) ∙ rw same refl)
+      | inr apart ↦ rw apart (ap (λ b. b || in_ranges (run ∷ rs) c) (between_self class c))
+    ]
 
 pub runs-ranges : (set : List ℕ) (n from : ℕ) → from + n ≤ 256 → AreRanges (runs (filter (has set) (range_with_len from n)))
 runs-ranges set zero from low = tt
 runs-ranges set (suc n) from low =
     elim (cases_Bool (has set from)) [
-        inl there ↦ rw there (onto_run-ranges from _ (omega arith) (runs-ranges set n (from + 1) (omega arith)))
-      | inr apart ↦ rw apart (runs-ranges set n (from + 1) (omega arith)) ]
+      | inl there ↦ rw there (onto_run-ranges from _ (omega arith) (runs-ranges set n (from + 1) (omega arith)))
+      | inr apart ↦ rw apart (runs-ranges set n (from + 1) (omega arith))
+    ]
 
 -- from another class on, a class lies in a range where it lies in what is left
 range_step : (c from n : ℕ) → (c ≡ from → ⊥) → (leb from c && ltb c (from + suc n)) ≡ (leb (from + 1) c && ltb c (from + 1 + n))
 range_step c from n other =
     let same : from + suc n ≡ from + 1 + n = omega arith in
     elim (cases_lt c from) [
-        inl below ↦ rw (lt-leb from c below, lt-leb (from + 1) c (omega arith)) refl
-      | inr above ↦ rw (le-leb from c above, le-leb (from + 1) c (omega arith), same) refl ]
+      | inl below ↦ rw (lt-leb from c below, lt-leb (from + 1) c (omega arith)) refl
+      | inr above ↦ rw (le-leb from c above, le-leb (from + 1) c (omega arith), same) refl
+    ]
 
 range_none : (b : Bool) (from c : ℕ) → false ≡ (b && (leb from c && ltb c (from + 0)))
 range_none b from c =
     elim (cases_lt c from) [
-        inl below ↦ rw (lt-leb from c below) (sym (and_right b false refl))
-      | inr above ↦ rw (le-leb from c above, le-ltb c (from + 0) (omega arith)) (sym (and_right b false refl)) ]
+      | inl below ↦ rw (lt-leb from c below) (sym (and_right b false refl))
+      | inr above ↦ rw (le-leb from c above, le-ltb c (from + 0) (omega arith)) (sym (and_right b false refl))
+    ]
 
 with_first : (set : List ℕ) (c from n : ℕ) → has set from ≡ true → (eqb c from || (has set c && (leb (from + 1) c && ltb c (from + 1 + n)))) ≡ (has set c && (leb from c && ltb c (from + suc n)))
 with_first set c from n there =
     elim (cases_eq c from) [
-        inl same ↦
-            let here : has set c ≡ true = rw same there in
-            rw (eq-eqb c from same, here, le-leb from c (omega arith), lt-ltb c (from + suc n) (omega arith)) refl
-      | inr other ↦ rw (ne_eqb c from other, range_step c from n other) refl ]
+      | inl same ↦
+          let here : has set c ≡ true = rw same there in
+          rw (eq-eqb c from same, here, le-leb from c (omega arith), lt-ltb c (from + suc n) (omega arith)) refl
+      | inr other ↦ rw (ne_eqb c from other, range_step c from n other) refl
+    ]
 
 without_first : (set : List ℕ) (c from n : ℕ) → has set from ≡ false → (has set c && (leb (from + 1) c && ltb c (from + 1 + n))) ≡ (has set c && (leb from c && ltb c (from + suc n)))
 without_first set c from n apart =
     elim (cases_eq c from) [
-        inl same ↦ let here : has set c ≡ false = rw same apart in rw here refl
-      | inr other ↦ rw (range_step c from n other) refl ]
+      | inl same ↦ let here : has set c ≡ false = rw same apart in rw here refl
+      | inr other ↦ rw (range_step c from n other) refl
+    ]
 
 -- the runs of a set's classes hold just those
 pub in_runs : (set : List ℕ) (n from c : ℕ) → from + n ≤ 256 → in_ranges (runs (filter (has set) (range_with_len from n))) c ≡ (has set c && (leb from c && ltb c (from + n)))
@@ -139,7 +151,8 @@ in_runs set (suc n) from c low =
     let rest = runs (filter (has set) (range_with_len (from + 1) n)) in
     let more = in_runs set n (from + 1) c (omega arith) in
     elim (cases_Bool (has set from)) [
-        inl there ↦
-            let joined : in_ranges (onto_run from rest) c ≡ (eqb c from || (has set c && (leb (from + 1) c && ltb c (from + 1 + n)))) = in_ranges-onto_run from rest c (runs-ranges set n (from + 1) (omega arith)) ∙ ap (λ b. eqb c from || b) more in
-            rw there (joined ∙ with_first set c from n there)
-      | inr apart ↦ rw apart (more ∙ without_first set c from n apart) ]
+      | inl there ↦
+          let joined : in_ranges (onto_run from rest) c ≡ (eqb c from || (has set c && (leb (from + 1) c && ltb c (from + 1 + n)))) = in_ranges-onto_run from rest c (runs-ranges set n (from + 1) (omega arith)) ∙ ap (λ b. eqb c from || b) more in
+          rw there (joined ∙ with_first set c from n there)
+      | inr apart ↦ rw apart (more ∙ without_first set c from n apart)
+    ]

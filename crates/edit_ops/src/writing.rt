@@ -128,3 +128,34 @@ fn append(out: &mut Bytes, piece: &[u8])
     let done = out.append(piece);
     done.unwrap();
 }
+
+#[cfg(test)]
+mod tests {
+    use super::*;
+    use crate::reading::read_edit;
+    use std::test::Fail;
+
+    #[test]
+    fn a_line_is_written_canonically(rt: HostRuntime) -> Result<(), Fail> {
+        for (line, canonical) in [
+            (
+                b"edit 007 -0 0 9 9 9 3,1-2,2 06".as_slice(),
+                b"edit 7 0 0 9 9 9 1-3 6".as_slice(),
+            ),
+            (
+                b" edit\t-2147483648 0 0 0 0 2147483647 0-255 255".as_slice(),
+                b"edit -2147483648 0 0 0 0 2147483647 all 255".as_slice(),
+            ),
+            (
+                b"edit 0 0 0 0 0 0 255,7,9-10,0 0".as_slice(),
+                b"edit 0 0 0 0 0 0 0,7,9-10,255 0".as_slice(),
+            ),
+        ] {
+            let edit = read_edit(line, 6)?;
+            let mut text = Bytes::new(rt.alloc());
+            edit_text(&edit, &mut text)?;
+            assert_eq!(rt; text.as_slice(), canonical);
+        }
+        Ok(())
+    }
+}

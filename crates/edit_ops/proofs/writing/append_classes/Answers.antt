@@ -15,7 +15,7 @@ loop-first-preserved c =
           rw c.from-from.ensures
           (one_item c.args.classes.now c.loop-first.from c.in-Some.first c.in-Some.last c.args.out.now.items c.loop-first.out.items c.append_item.new.out.items (text_from 0 (runs (members_from c.args.classes.now 0))) c.in-Some.ensures.run old.text c.append_item.ensures.appended);
       room = omega (arith, old.room, c.append_item.ensures.room, c.in-Some.ensures.after);
-      within = omega (arith, c.in-Some.ensures.within)
+      within = omega (arith, c.in-Some.ensures.within);
     }
 
 pub returns-clause-appended : goal.returns-clause-appended

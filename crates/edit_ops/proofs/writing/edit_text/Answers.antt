@@ -12,5 +12,5 @@ returns-clause-appended c =
 pub returns-clause-reads_back : goal.returns-clause-reads_back
 returns-clause-reads_back c format within =
     let is : IsEdit c.args.edit.now =
-        rw (← c.edit.view_is) (record { min = c.append_corner.ensures.corner; max = c.append_corner-2.ensures.corner; from = c.edit.invariant; to = c.append_class.ensures.class }) in
+    rw (← c.edit.view_is) (record { min = c.append_corner.ensures.corner; max = c.append_corner-2.ensures.corner; from = c.edit.invariant; to = c.append_class.ensures.class }) in
     edit_of-canonical c.args.edit.now format is within
