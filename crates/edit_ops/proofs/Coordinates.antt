@@ -1,5 +1,5 @@
 -- Coordinates: the numbers of 32 bits.
-use Rattle.std.proofs.Common.{◌≡◌, ℕ, ℤ, pos, negsuc, ◌<◌, ◌≤◌, ◌^◌, Bool, true, false, Option, Some, None, Result, Ok, Err, List, refl, sym, ap, inl, inr, ◌∙◌, arith, FitsSigned}
+use Rattle.std.proofs.Common.{◌≡◌, ℕ, ℤ, pos, negsuc, Some, None, Result, Ok, Err, List, refl, sym, ap, inl, inr, ◌∙◌, arith, FitsSigned}
 use Rattle.std.specs.Int.{w32}
 use Rattle.std.specs.Result.{OkIff, result_ok}
 use Rattle.std.proofs.lemmas.Bool.{le-leb, lt-leb, cases_lt}

@@ -1,5 +1,5 @@
 -- Pieces joined by a separator, and cut at it again.
-use Rattle.std.proofs.Common.{◌≡◌, ℕ, ◌<◌, Bool, true, false, ltb, List, [], ◌∷◌, ◌++◌, length, get_or, filter, refl, sym, ap, ◌∙◌, arith}
+use Rattle.std.proofs.Common.{◌≡◌, ℕ, ◌<◌, Bool, true, false, ltb, List, [], ◌∷◌, length, filter, refl, ap, ◌∙◌}
 use Rattle.std.specs.List.{All, join_with_byte, slice_split}
 use Rattle.std.proofs.lemmas.Bool.{lt-ltb}
 use Rattle.std.proofs.lemmas.List.Splits.{slice_split_none, slice_split_at}

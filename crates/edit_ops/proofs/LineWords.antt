@@ -1,9 +1,8 @@
 -- One word more of an edit line, and its faults.
-use Rattle.std.proofs.Common.{◌≡◌, ℕ, suc, ◌+◌, ◌-◌, ◌<◌, ◌≤◌, Bool, true, false, ◌&&◌, eqb, Option, Some, None, List, [], ◌∷◌, length, get_or, drop, refl, sym, ap, ◌∙◌, inl, inr, arith, length-drop}
-use Rattle.std.proofs.lemmas.Bool.{and_cases, and_from, eq-eqb, ne_eqb, cases_eq, and_right, le-leb}
+use Rattle.std.proofs.Common.{◌≡◌, ℕ, suc, ◌+◌, ◌<◌, ◌≤◌, true, false, eqb, Some, None, List, [], ◌∷◌, length, get_or, drop, refl, sym, ap, ◌∙◌, inl, inr, arith, length-drop}
+use Rattle.std.proofs.lemmas.Bool.{ne_eqb, cases_eq, and_right, le-leb}
 use Rattle.std.proofs.lemmas.List.{drop_more}
-use Rattle.edit_ops.specs.declared.fault.EditFault.{EditFault}
-use Rattle.edit_ops.specs.declared.fault.EditFault.TheVariants.{Line, ClassRange}
+use Rattle.edit_ops.specs.declared.fault.EditFault.TheVariants.{Line}
 use Rattle.edit_ops.specs.EditLine.{fits, fitting, line_fault, coordinate}
 use Rattle.std.specs.Prelude.{codes, is_some}
 use Rattle.std.specs.Str.{bytes_eq}

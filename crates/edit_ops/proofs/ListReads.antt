@@ -1,7 +1,7 @@
 -- The text of a class list, read again as its set.
-use Rattle.std.proofs.Common.{◌≡◌, ℕ, zero, suc, ◌+◌, ◌<◌, ◌≤◌, ◌≢◌, Bool, true, false, ◌&&◌, eqb, ltb, Option, Some, None, List, [], ◌∷◌, ◌++◌, length, get_or, map, filter, refl, sym, ap, ◌∙◌, inl, inr, arith, decimal, length-append}
+use Rattle.std.proofs.Common.{◌≡◌, ℕ, ◌+◌, ◌<◌, ◌≤◌, ◌≢◌, Bool, true, false, ◌&&◌, eqb, Some, List, [], ◌∷◌, ◌++◌, length, get_or, map, refl, sym, ap, ◌∙◌, inl, inr, arith, decimal, length-append}
 use Rattle.std.specs.Prelude.{codes}
-use Rattle.std.specs.List.{All, join_with_byte, slice_split, range_with_len}
+use Rattle.std.specs.List.{All, join_with_byte}
 use Rattle.std.specs.Str.{bytes_eq}
 use Rattle.std.proofs.lemmas.Bool.{cases_Bool, ne_eqb, lt-ltb, le-leb}
 use Rattle.std.proofs.lemmas.List.{get_or_append_left}
@@ -11,11 +11,11 @@ use Rattle.std.proofs.lemmas.Slice.Eq.{bytes_eq-Decides}
 use Rattle.view_base.specs.Text.{is_blank}
 use Rattle.view_meaning.specs.Classes.{has, all_classes}
 use Rattle.class_bits.specs.ClassSet.{IsClassSet, members, set_of}
-use Rattle.class_bits.specs.ClassList.{is_comma, in_ranges, item_ranges, class_list}
+use Rattle.class_bits.specs.ClassList.{is_comma, in_ranges, class_list}
 use Rattle.class_bits.proofs.Items.{class_list-all, set_of-has}
-use Rattle.edit_ops.specs.Canonical.{onto_run, runs, run_text, classes_text, members_from}
-use Rattle.edit_ops.proofs.Joined.{AllClear, AllSome, slice_split-joined}
-use Rattle.edit_ops.proofs.ListText.{classes_text-all, classes_text-runs, members-from_0, text_from, after_comma, join-first}
+use Rattle.edit_ops.specs.Canonical.{onto_run, runs, run_text, classes_text}
+use Rattle.edit_ops.proofs.Joined.{AllClear, slice_split-joined}
+use Rattle.edit_ops.proofs.ListText.{classes_text-all, classes_text-runs, members-from_0, after_comma, join-first}
 use Rattle.edit_ops.proofs.NumberText.{digit_at, digit_clear, All-cons}
 use Rattle.edit_ops.proofs.RunsText.{AreRanges, item_ranges-run_texts, runs-ranges, in_runs}
 

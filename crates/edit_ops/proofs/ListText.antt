@@ -1,11 +1,11 @@
 -- The text of a class list, one run after another.
-use Rattle.std.proofs.Common.{◌≡◌, ℕ, ◌+◌, ◌<◌, Bool, true, false, cond, eqb, List, [], ◌∷◌, ◌++◌, map, filter, refl, sym, inl, inr, ap, ◌∙◌, append_assoc, arith}
-use Rattle.std.specs.List.{join_with_byte, flat_map, range_with_len}
+use Rattle.std.proofs.Common.{◌≡◌, ℕ, ◌+◌, Bool, true, false, cond, eqb, List, [], ◌∷◌, ◌++◌, map, refl, sym, inl, inr, ap, ◌∙◌, append_assoc, arith}
+use Rattle.std.specs.List.{join_with_byte, flat_map}
 use Rattle.std.proofs.lemmas.List.{append-nil}
 use Rattle.std.proofs.lemmas.Bool.{ne_eqb, cases_Bool}
 use Rattle.std.specs.Prelude.{codes}
 use Rattle.std.specs.Str.{bytes_eq}
-use Rattle.view_meaning.specs.Classes.{has, all_classes}
+use Rattle.view_meaning.specs.Classes.{all_classes}
 use Rattle.class_bits.specs.ClassSet.{members}
 use Rattle.edit_ops.specs.Canonical.{run_text, runs, members_from, classes_text}
 

@@ -1,17 +1,15 @@
 -- The canonical line of an edit is read as that edit.
-use Rattle.std.proofs.Common.{◌≡◌, ℕ, ℤ, suc, ◌+◌, ◌<◌, ◌≤◌, true, false, Some, None, Ok, List, [], ◌∷◌, length, refl, sym, ap, ◌∙◌, arith, decimal, FitsSigned}
+use Rattle.std.proofs.Common.{◌≡◌, ℕ, ℤ, ◌≤◌, true, false, None, Ok, [], ◌∷◌, refl, ap, ◌∙◌, arith, decimal, FitsSigned}
 use Rattle.std.specs.Prelude.{codes, is_some}
 use Rattle.std.specs.Fmt.{signed_decimal}
 use Rattle.std.specs.Int.{w32}
 use Rattle.std.specs.List.{All}
 use Rattle.std.proofs.lemmas.Bool.{le-leb}
 use Rattle.std.proofs.lemmas.Fmt.{decimal_nonempty}
-use Rattle.view_base.specs.declared.place.Point.{Point}
 use Rattle.view_base.specs.Text.{is_blank, words}
 use Rattle.view_meaning.specs.Classes.{Edit, top_class}
-use Rattle.class_bits.specs.ClassSet.{IsClassSet, members}
 use Rattle.edit_ops.specs.Edit.{HasClasses, IsPoint}
-use Rattle.edit_ops.specs.EditLine.{fits, fitting, line_fault, ranged_edit, edit_of}
+use Rattle.edit_ops.specs.EditLine.{fits, line_fault, ranged_edit, edit_of}
 use Rattle.edit_ops.specs.Canonical.{canonical_words, canonical, classes_text}
 use Rattle.edit_ops.proofs.Joined.{words-joined}
 use Rattle.edit_ops.proofs.LineWords.{fits-keyword, fits-coordinate, fits-classes, fits-digits}

@@ -1,14 +1,13 @@
 -- The text of runs of classes, read again as their ranges.
-use Rattle.std.proofs.Common.{◌≡◌, ℕ, zero, suc, ◌+◌, ◌-◌, ◌<◌, ◌≤◌, ◌^◌, Bool, true, false, cond, ◌&&◌, ◌||◌, eqb, leb, ltb, not, Option, Some, None, List, [], ◌∷◌, ◌++◌, length, get_or, take, drop, map, filter, refl, sym, ap, ◌∙◌, inl, inr, arith, decimal, append_assoc}
-use Rattle.std.specs.List.{All, list_any, position_or_len, prefix_len, range_with_len}
-use Rattle.std.proofs.lemmas.Bool.{cases_Bool, cases_eq, eqb-true, eqb-false, eq-eqb, ne_eqb, le-leb, lt-leb, lt-ltb, le-ltb, cases_lt, and_right, or_right}
+use Rattle.std.proofs.Common.{◌≡◌, ℕ, zero, suc, ◌+◌, ◌≤◌, Bool, true, false, ◌&&◌, ◌||◌, eqb, leb, ltb, Some, List, [], ◌∷◌, ◌++◌, length, get_or, take, drop, map, filter, refl, sym, ap, ◌∙◌, inl, inr, arith, decimal}
+use Rattle.std.specs.List.{All, list_any, position_or_len, range_with_len}
+use Rattle.std.proofs.lemmas.Bool.{cases_Bool, cases_eq, eqb-true, eq-eqb, ne_eqb, le-leb, lt-leb, lt-ltb, le-ltb, cases_lt, and_right}
 use Rattle.std.proofs.lemmas.List.{take_at, drop_at, drop-drop}
-use Rattle.std.proofs.lemmas.List.Folds.{list_any_none, list_any_at}
-use Rattle.view_base.specs.Text.{is_blank, digits}
+use Rattle.std.proofs.lemmas.List.Folds.{list_any_none}
 use Rattle.view_meaning.specs.Classes.{has}
-use Rattle.class_bits.specs.ClassList.{is_dash, is_comma, is_between, in_ranges, range_of, item_range, item_ranges, and_ranges}
+use Rattle.class_bits.specs.ClassList.{is_dash, in_ranges, range_of, item_range, item_ranges}
 use Rattle.edit_ops.specs.Canonical.{onto_run, runs, run_text}
-use Rattle.edit_ops.proofs.NumberText.{digit_at, digits-decimal, All-cons}
+use Rattle.edit_ops.proofs.NumberText.{digit_at, digits-decimal}
 
 -- runs that do not fall and end at 255 at most
 abbrev pub AreRanges : List (ℕ × ℕ) → Type 0

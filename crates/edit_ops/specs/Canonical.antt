@@ -3,7 +3,6 @@ use Rattle.std.specs.Prelude.{ℕ, ◌+◌, ◌-◌, ◌==◌, List, [], ◌∷�
 use Rattle.std.specs.Fmt.{signed_decimal}
 use Rattle.std.specs.List.{join_with_byte, range_with_len}
 use Rattle.std.specs.Str.{bytes_eq}
-use Rattle.view_base.specs.declared.place.Point.{Point}
 use Rattle.view_meaning.specs.Classes as meaning
 use Rattle.view_meaning.specs.Classes.{has, all_classes}
 use Rattle.class_bits.specs.ClassSet.{members}

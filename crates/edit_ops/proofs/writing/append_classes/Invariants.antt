@@ -1,5 +1,4 @@
 use Rattle.std.proofs.Common.{◌≡◌, ◌+◌, ◌-◌, ◌*◌, ◌≤◌, ◌++◌}
-use Rattle.class_bits.specs.ClassSet.{members}
 use Rattle.edit_ops.specs.Canonical.{runs, members_from}
 use Rattle.edit_ops.proofs.ListText.{text_from}
 use Rattle.edit_ops.proofs.writing.append_classes.Given as goal
