@@ -22,7 +22,7 @@ pub struct HostDesk<R> {
     output_opened: bool,
 }
 
-impl<R: Files + Input + Print + Clone + Drop + Send> HostDesk<R>
+impl<R: Files + Input + Print + Copy + Send> HostDesk<R>
 where
     R::File: Send,
     R::Reader: Send,
@@ -43,7 +43,7 @@ where
     }
 }
 
-impl<R: Files + Input + Print + Clone + Drop> HostDesk<R> {
+impl<R: Files + Input + Print + Copy> HostDesk<R> {
     /// Opens a name for reading, and answers `None` where that failed.
     fn origin(&mut self, name: &str) -> Option<Origin<R::File, R::Reader>>
         ensures { self.new.ledger ≡ self.old.ledger }
@@ -74,13 +74,12 @@ impl<R: Files + Input + Print + Clone + Drop> HostDesk<R> {
         if self.output_opened {
             return None;
         }
-        let printer = self.rt.clone().ok()?;
         self.output_opened = true;
-        Some(Target::Standard(printer))
+        Some(Target::Standard(self.rt))
     }
 }
 
-impl<R: Files + Input + Print + Clone + Drop + Send> Desk for HostDesk<R>
+impl<R: Files + Input + Print + Copy + Send> Desk for HostDesk<R>
 where
     R::File: Send,
     R::Reader: Send,

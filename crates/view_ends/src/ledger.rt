@@ -42,7 +42,7 @@ impl Ledger {
     }
 
     /// The counts of a name.
-    fn of(&self, name: &str) -> Counts
+    pub(crate) fn of(&self, name: &str) -> Counts
         ensures { result ≡ counts_of self.now name.now }
     {
         self.counts.get(name).copied().unwrap_or(NOTHING)

@@ -59,6 +59,34 @@ impl MemDesk {
         self.files.get(name)
     }
 
+    /// How often reading of a name failed.
+    pub fn read_faults(&self, name: &str) -> u64
+        ensures { result ≡ ⟦<MemDesk as Desk>⟧.read_faults self.now name.now }
+    {
+        self.ledger.of(name).read_faults
+    }
+
+    /// How often writing of a name failed.
+    pub fn write_faults(&self, name: &str) -> u64
+        ensures { result ≡ ⟦<MemDesk as Desk>⟧.write_faults self.now name.now }
+    {
+        self.ledger.of(name).write_faults
+    }
+
+    /// How many bytes were taken from the inputs of a name that were shut.
+    pub fn taken(&self, name: &str) -> u64
+        ensures { result ≡ ⟦<MemDesk as Desk>⟧.taken self.now name.now }
+    {
+        self.ledger.of(name).taken
+    }
+
+    /// How often the keeping of a name was refused.
+    pub fn unkept(&self, name: &str) -> u64
+        ensures { result ≡ ⟦<MemDesk as Desk>⟧.unkept self.now name.now }
+    {
+        self.ledger.of(name).unkept
+    }
+
     /// Lets one later call on this name fail, the first that comes to it. For `Take` and `Give`
     /// that is a call of the next end opened of this name, when just `at` bytes were taken or
     /// given; for the other calls `at` says nothing.
@@ -165,13 +193,13 @@ mod tests {
     #[test]
     fn each_call_fails_once(rt: HostRuntime) -> Result<(), Fail> {
         let cases = [
-            (DeskCall::OpenIn, "a", None),
-            (DeskCall::Take, "a", None),
-            (DeskCall::OpenOut, "b", None),
-            (DeskCall::Give, "b", Some("")),
-            (DeskCall::Keep, "b", Some("")),
+            (DeskCall::OpenIn, "a", None, [1, 0, 0]),
+            (DeskCall::Take, "a", None, [1, 0, 0]),
+            (DeskCall::OpenOut, "b", None, [0, 1, 0]),
+            (DeskCall::Give, "b", Some(""), [0, 1, 0]),
+            (DeskCall::Keep, "b", Some(""), [0, 1, 1]),
         ];
-        for (call, name, left) in cases {
+        for (call, name, left, counts) in cases {
             let mut desk = MemDesk::new(rt.alloc());
             let mut bytes = Bytes::new(rt.alloc());
             bytes.append(b"bytes")?;
@@ -187,6 +215,12 @@ mod tests {
                 left.map(|text| text.as_bytes()),
                 "at {call:?}"
             );
+            let counted = [
+                desk.read_faults("a"),
+                desk.write_faults("b"),
+                desk.unkept("b"),
+            ];
+            assert_eq!(rt; counted, counts, "at {call:?}");
             assert_eq!(rt; copy(&mut desk, "a", "b"), Ok(()), "after {call:?}");
             assert_eq!(rt;
                 desk.bytes_of("b"),

@@ -1,4 +1,4 @@
-ghost use Rattle.std.specs.Prelude.{◌≡◌, ◌++◌, ◌∷◌, [], ℕ, List, IsTrue, OnOk, OnErr, IfOk};
+ghost use Rattle.std.specs.Prelude.{◌≡◌, ◌↔◌, ◌++◌, ◌∷◌, [], IsTrue, OnOk, OnErr, MatchBool, MatchOption, IsSomeAnd, slice_get, Any, IsPermutation};
 
 use crate::failing::Places;
 use std::alloc::Global;
@@ -28,7 +28,11 @@ struct Plan {
 }
 
 impl Plan {
-    fn is_for(&self, name: &str, call: DeskCall) -> bool {
+    ghost use Rattle.view_ends.specs.Plans.{IsFor};
+
+    fn is_for(&self, name: &str, call: DeskCall) -> bool
+        ensures { IsTrue result ↔ IsFor self.now name.now call }
+    {
         self.call == call && self.name.as_str() == name
     }
 }
@@ -41,6 +45,8 @@ pub(crate) struct Plans {
 }
 
 impl Plans {
+    ghost use Rattle.view_ends.specs.Plans.{Plan, IsFor};
+
     pub(crate) fn new(alloc: Global) -> Plans {
         Plans {
             alloc,
@@ -49,15 +55,27 @@ impl Plans {
     }
 
     /// Plans that one more call of this name fails.
-    pub(crate) fn add(&mut self, name: &str, call: DeskCall, at: u64) -> Result<(), OutOfMemory> {
+    pub(crate) fn add(&mut self, name: &str, call: DeskCall, at: u64) -> Result<(), OutOfMemory>
+        ensures added { OnOk result ((plan : Plan) × IsFor plan name.now call × (plan.at ≡ at) × (self.new.plans.items ≡ self.old.plans.items ++ plan ∷ [])) }
+        ensures refused { OnErr result (self.new.plans.items ≡ self.old.plans.items) }
+    {
         let name = String::from_str(self.alloc, name)?;
         self.plans.push(Plan { name, call, at })?;
         Ok(())
     }
 
+    /// The index of the first plan for this call of this name.
+    fn index_of(&self, name: &str, call: DeskCall) -> Option<usize>
+        ensures { MatchOption result (¬ Any (λ plan. IsFor plan name.now call) self.now.plans.items) (λ i. IsSomeAnd (slice_get self.now.plans.items i) (λ plan. IsFor plan name.now call)) }
+    {
+        self.plans.iter().position(|plan| plan.is_for(name, call))
+    }
+
     /// Whether this call fails. Each plan fails one call.
-    pub(crate) fn strike(&mut self, name: &str, call: DeskCall) -> bool {
-        match self.plans.iter().position(|plan| plan.is_for(name, call)) {
+    pub(crate) fn strike(&mut self, name: &str, call: DeskCall) -> bool
+        ensures { MatchBool result ((plan : Plan) × IsFor plan name.now call × IsPermutation self.old.plans.items (plan ∷ self.new.plans.items)) ((self.new.plans.items ≡ self.old.plans.items) × ¬ Any (λ plan. IsFor plan name.now call) self.old.plans.items) }
+    {
+        match self.index_of(name, call) {
             Some(i) => {
                 let _ = self.plans.remove(i);
                 true

@@ -51,6 +51,13 @@ impl StillDesk {
     {
         self.files.get(name)
     }
+
+    /// How many bytes were taken from the inputs of a name that were shut.
+    pub fn taken(&self, name: &str) -> u64
+        ensures { result ≡ ⟦<StillDesk as Desk>⟧.taken self.now name.now }
+    {
+        self.ledger.of(name).taken
+    }
 }
 
 impl Desk for StillDesk {
@@ -120,6 +127,7 @@ mod tests {
         assert_eq!(rt; input.take(&mut buf)?, 5);
         assert_eq!(rt; &buf[..5], b"bytes".as_slice());
         desk.shut("b", input);
+        assert_eq!(rt; desk.taken("b"), 5);
         assert_eq!(rt; desk.bytes_of("a"), Some(b"".as_slice()));
         assert_eq!(rt; desk.bytes_of("c"), None);
         Ok(())

@@ -1,0 +1,12 @@
+//! Tests that cross crates: whole commands over desks in memory, as tables. Expected bytes come from
+//! arithmetic by hand.
+#![tactic(auto)]
+
+#[cfg(test)]
+mod drawing;
+#[cfg(test)]
+mod failing;
+#[cfg(test)]
+mod plain;
+#[cfg(test)]
+mod refusals;

@@ -1,0 +1,9 @@
+pub mod Claiming
+pub mod Closing
+pub mod Joining
+pub mod Leasts
+pub mod Others
+pub mod Plotting
+pub mod Splitting
+pub mod Totals
+pub mod Views

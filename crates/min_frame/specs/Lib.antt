@@ -1,0 +1,4 @@
+pub mod Claimed
+pub mod Least
+pub mod Meaning
+pub mod Rule

@@ -1,0 +1,11 @@
+-- What a desk says at a moment.
+use Rattle.std.specs.Prelude.{ℕ, List, Option}
+
+-- of each name: its file, how often reading and writing of it failed, how many bytes were taken from its
+-- inputs that were shut, and how often its keeping was refused
+pub record Said : Type 0 where
+  pub file : List ℕ → Option (List ℕ)
+  pub reads : List ℕ → ℕ
+  pub writes : List ℕ → ℕ
+  pub taken : List ℕ → ℕ
+  pub unkept : List ℕ → ℕ

@@ -1,0 +1,66 @@
+ghost use Rattle.std.specs.Prelude.{◌≡◌};
+ghost use Rattle.view_commands.specs.Status.{code_of};
+
+use int_camera::CameraLimit;
+use std::fmt;
+
+/// How a command ended. `at` is the place of a word of the command line, from 0.
+#[derive(Clone, Copy, Debug, PartialEq, Eq)]
+pub enum Status {
+    /// All was done.
+    Done,
+    /// The first number of the camera that is out of its range.
+    Limit(CameraLimit),
+    /// A file was not opened.
+    OpenFault { at: u32 },
+    /// A file was not read to its end.
+    ReadFault { at: u32 },
+    /// The survey has more than 2^30 bytes.
+    TooLong,
+    /// A file was not written whole, or not kept.
+    WriteFault { at: u32 },
+    /// Want of memory.
+    Memory,
+    /// What the words ask for, or a survey like this one, is not built yet.
+    NotYet,
+}
+
+/// The exit status of the program for a status.
+pub fn code(status: &Status) -> u8
+    ensures { result ≡ code_of status.now }
+{
+    match status {
+        Status::Done => 0,
+        Status::Limit(_) => 3,
+        Status::OpenFault { .. } => 5,
+        Status::ReadFault { .. } => 6,
+        Status::TooLong => 7,
+        Status::WriteFault { .. } => 9,
+        Status::Memory => 11,
+        Status::NotYet => 12,
+    }
+}
+
+impl fmt::Display for Status {
+    ghost use Rattle.std.specs.Prelude.{Some};
+    ghost use Rattle.view_commands.specs.Status.{text_of};
+
+    ghost output = { λ status. Some (text_of status) };
+
+    fn fmt<W: fmt::Write>(&self, f: &mut fmt::Formatter<W>) -> fmt::Result {
+        match self {
+            Status::Done => Ok(()),
+            Status::Limit(limit) => write!(
+                f,
+                "camera number {} is out of range: {}",
+                limit.place, limit.value
+            ),
+            Status::OpenFault { at } => write!(f, "cannot open word {at}"),
+            Status::ReadFault { at } => write!(f, "cannot read word {at}"),
+            Status::TooLong => f.write_str("survey is too long"),
+            Status::WriteFault { at } => write!(f, "cannot write word {at}"),
+            Status::Memory => f.write_str("out of memory"),
+            Status::NotYet => f.write_str("not built yet"),
+        }
+    }
+}
