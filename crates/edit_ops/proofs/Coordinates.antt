@@ -1,5 +1,5 @@
 -- Coordinates: the numbers of 32 bits.
-use Rattle.std.proofs.Common.{◌≡◌, ℕ, ℤ, pos, negsuc, ◌<◌, ◌≤◌, ◌^◌, Bool, true, false, Option, Some, None, Result, Ok, Err, List, refl, sym, ap, inl, inr, ◌∙◌, arith, FitsSigned}
+use Rattle.std.proofs.Common.{◌≡◌, ℕ, ℤ, pos, negsuc, Some, None, Result, Ok, Err, List, refl, sym, ap, inl, inr, ◌∙◌, arith, FitsSigned}
 use Rattle.std.specs.Int.{w32}
 use Rattle.std.specs.Result.{OkIff, result_ok}
 use Rattle.std.proofs.lemmas.Bool.{le-leb, lt-leb, cases_lt}
@@ -15,7 +15,7 @@ unfolding coordinate
 coordinate-number word z some = rw some refl
 
 -- a number that fits 32 bits is a coordinate, and another is none
-in_32_bits-fits : (z : ℤ) → FitsSigned w32 z → in_32_bits z ≡ Some z
+pub in_32_bits-fits : (z : ℤ) → FitsSigned w32 z → in_32_bits z ≡ Some z
 in_32_bits-fits (pos n) h = rw (le-leb n 2147483647 (omega (arith, h.sfits))) refl
 in_32_bits-fits (negsuc n) h = rw (le-leb n 2147483647 (omega (arith, h.sfits))) refl
 

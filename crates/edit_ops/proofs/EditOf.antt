@@ -1,12 +1,11 @@
 -- What a line is, by its fault and its fields.
-use Rattle.std.proofs.Common.{◌≡◌, ℕ, pos, ◌<◌, ◌≤◌, Option, Some, None, Result, Ok, Err, List, refl, sym, ◌∙◌, leb}
+use Rattle.std.proofs.Common.{◌≡◌, ℕ, pos, ◌<◌, ◌≤◌, Some, None, Ok, Err, List, refl}
 use Rattle.std.proofs.lemmas.Bool.{le-leb, lt-leb}
-use Rattle.view_base.specs.declared.place.Point.{Point}
 use Rattle.view_base.specs.declared.place.Box3.{Box3}
 use Rattle.view_base.specs.Text.{words}
 use Rattle.view_meaning.specs.Classes.{top_class}
 use Rattle.edit_ops.specs.declared.fault.EditFault.{EditFault}
-use Rattle.edit_ops.specs.declared.fault.EditFault.TheVariants.{Line, ClassRange}
+use Rattle.edit_ops.specs.declared.fault.EditFault.TheVariants.{ClassRange}
 use Rattle.edit_ops.specs.EditLine.{line_fault, classes_at, digits_at, point_at, edit_of}
 
 pub edit_of-fault : (line : List ℕ) (format : ℕ) (fault : EditFault) → line_fault (words line) ≡ Some fault → edit_of line format ≡ Err fault

@@ -1,3 +1,11 @@
+pub mod CanonicalLine
 pub mod Coordinates
 pub mod EditOf
 pub mod LineWords
+pub mod ListText
+pub mod RunsOf
+pub mod Joined
+pub mod NumberText
+pub mod RunsText
+pub mod ListReads
+pub mod ReadsBack

@@ -1,9 +1,8 @@
 -- One word more of an edit line, and its faults.
-use Rattle.std.proofs.Common.{◌≡◌, ℕ, suc, ◌+◌, ◌-◌, ◌<◌, ◌≤◌, Bool, true, false, ◌&&◌, eqb, Option, Some, None, List, [], ◌∷◌, length, get_or, drop, refl, sym, ap, ◌∙◌, inl, inr, arith, length-drop}
-use Rattle.std.proofs.lemmas.Bool.{and_cases, and_from, eq-eqb, ne_eqb, cases_eq, and_right, le-leb}
+use Rattle.std.proofs.Common.{◌≡◌, ℕ, suc, ◌+◌, ◌<◌, ◌≤◌, true, false, eqb, Some, None, List, [], ◌∷◌, length, get_or, drop, refl, sym, ap, ◌∙◌, inl, inr, arith, length-drop}
+use Rattle.std.proofs.lemmas.Bool.{ne_eqb, cases_eq, and_right, le-leb}
 use Rattle.std.proofs.lemmas.List.{drop_more}
-use Rattle.edit_ops.specs.declared.fault.EditFault.{EditFault}
-use Rattle.edit_ops.specs.declared.fault.EditFault.TheVariants.{Line, ClassRange}
+use Rattle.edit_ops.specs.declared.fault.EditFault.TheVariants.{Line}
 use Rattle.edit_ops.specs.EditLine.{fits, fitting, line_fault, coordinate}
 use Rattle.std.specs.Prelude.{codes, is_some}
 use Rattle.std.specs.Str.{bytes_eq}
@@ -16,8 +15,9 @@ fault_here : (line : List (List ℕ)) (k : ℕ) → fitting 0 line ≡ k → (k 
 unfolding line_fault
 fault_here line k here part =
     elim (cases_eq k 9) [
-        inl nine ↦ rw (ne_eqb (length line) 9 (part nine)) (rw here refl)
-      | inr other ↦ rw (here, ne_eqb k 9 other, and_right (eqb (length line) 9) false refl) refl ]
+      | inl nine ↦ rw (ne_eqb (length line) 9 (part nine)) (rw here refl)
+      | inr other ↦ rw (here, ne_eqb k 9 other, and_right (eqb (length line) 9) false refl) refl
+    ]
 
 -- a word that does not fit
 pub misfit : (line left others : List (List ℕ)) (word : List ℕ) (k : ℕ) → IsRead line left k → left ≡ word ∷ others → fits k word ≡ false → line_fault line ≡ Some (Line k)
@@ -41,7 +41,7 @@ read_more line left others word k r next here =
     record {
       fit = omega (arith, r.fit, more);
       left_are = let cut : word ∷ others ≡ get_or line k word ∷ drop (k + 1) line = sym next ∙ r.left_are ∙ drop_more line k word inside in cc;
-      within = omega arith
+      within = omega arith;
     }
 
 -- the word at a place

@@ -1,9 +1,8 @@
 -- The edit line: `edit X0 Y0 Z0 X1 Y1 Z1 FROM TO`.
-use Rattle.std.specs.Prelude.{ℕ, zero, suc, ◌+◌, ◌==◌, ◌&&◌, nat_le, ℤ, pos, negsuc, int_le, Bool, false, List, [], ◌∷◌, length, codes, slice_index_or, Option, Some, None, is_some, unwrap_or, Result, Ok, Err, if◌then◌else◌}
+use Rattle.std.specs.Prelude.{ℕ, ◌+◌, ◌==◌, ◌&&◌, nat_le, ℤ, pos, negsuc, int_le, Bool, false, List, [], ◌∷◌, length, codes, slice_index_or, Option, Some, None, is_some, unwrap_or, Result, Ok, Err, if◌then◌else◌}
 use Rattle.std.specs.Option.{option_and_then}
 use Rattle.std.specs.Str.{bytes_eq}
 use Rattle.view_base.specs.declared.place.Point.{Point}
-use Rattle.view_base.specs.declared.place.Box3.{Box3}
 use Rattle.view_base.specs.Text.{words, number, digits}
 use Rattle.view_meaning.specs.Classes as meaning
 use Rattle.class_bits.specs.ClassSet.{no_classes}

@@ -1,3 +1,4 @@
+pub mod Canonical
 pub mod Edit
 pub mod EditLine
 pub mod Reading

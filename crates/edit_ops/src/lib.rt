@@ -4,7 +4,10 @@
 mod edit;
 mod fault;
 mod reading;
+mod runs;
+mod writing;
 
 pub use edit::{Edit, applies};
 pub use fault::EditFault;
 pub use reading::read_edit;
+pub use writing::edit_text;

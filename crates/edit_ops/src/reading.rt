@@ -1,6 +1,5 @@
 ghost use Rattle.std.specs.Prelude.{◌≡◌, ℕ, ◌+◌, ◌^◌, ◌<◌, ◌≤◌, [], ◌∷◌, List, length, drop, slice_index_or, Some, None, Ok, Err, OnOk, IfOk, IfErr, is_some, IsTrue};
 ghost use Rattle.view_base.specs.Text.{words};
-
 ghost use Rattle.edit_ops.specs.Edit.{HasClasses};
 ghost use Rattle.edit_ops.specs.EditLine.{coordinate, coordinate_at, classes_at, digits_at, point_at, fits, line_fault, edit_of};
 ghost use Rattle.edit_ops.specs.Reading.{IsRead};
@@ -242,5 +241,50 @@ pub fn read_edit(line: &[u8], format: u8) -> Result<Edit, EditFault>
             })
         }
         Err(fault) => Err(fault),
+    }
+}
+
+#[cfg(test)]
+mod tests {
+    use super::*;
+    use crate::edit::applies;
+    use std::test::Fail;
+
+    #[test]
+    fn an_edit_changes_its_classes_in_its_box(rt: HostRuntime) -> Result<(), Fail> {
+        let edit = read_edit(b"edit -5 0 0 9 9 9 2,9-10 6", 0)?;
+        let inside = Point { x: -5, y: 9, z: 0 };
+        assert_eq!(rt; edit.to, 6);
+        assert!(rt; applies(&edit, inside, 10));
+        assert!(rt; !applies(&edit, inside, 3));
+        assert!(rt; !applies(&edit, Point { x: -6, ..inside }, 2));
+        Ok(())
+    }
+
+    #[test]
+    fn the_first_word_that_does_not_fit_is_named(rt: HostRuntime) {
+        for (line, at) in [
+            (b"".as_slice(), 0),
+            (b"Edit 0 0 0 9 9 9 all 6".as_slice(), 0),
+            (b"edit 2147483648 0 0 9 9 9 all 6".as_slice(), 1),
+            (b"edit 0 0 0 9 9 9 5-3 6".as_slice(), 7),
+            (b"edit 0 0 0 9 9 9 all".as_slice(), 8),
+            (b"edit 0 0 0 9 9 9 all -1".as_slice(), 8),
+            (b"edit 0 0 0 9 9 9 all 999999999999999999999".as_slice(), 8),
+            (b"edit 0 0 0 9 9 9 all 6 x".as_slice(), 9),
+        ] {
+            let fault = read_edit(line, 0).err();
+            assert_eq!(rt; fault, Some(EditFault::Line { at }));
+        }
+    }
+
+    #[test]
+    fn a_class_above_the_format_is_named(rt: HostRuntime) {
+        let fault = read_edit(b"edit 0 0 0 9 9 9 all 32", 5).err();
+        assert_eq!(rt; fault, Some(EditFault::ClassRange { class: 32 }));
+        let fault = read_edit(b"edit 0 0 0 9 9 9 all 99999999999999999999", 6).err();
+        let class = 99999999999999999999;
+        assert_eq!(rt; fault, Some(EditFault::ClassRange { class }));
+        assert!(rt; read_edit(b"edit 0 0 0 9 9 9 all 32", 6).is_ok());
     }
 }

@@ -1,4 +1,4 @@
-use Rattle.std.proofs.Common.{sym, ◌∙◌, ◌≡◌, to_z, of_z, FitsSigned, rules}
+use Rattle.std.proofs.Common.{sym, ◌∙◌, FitsSigned, rules}
 use Rattle.std.proofs.lemmas.Int.{to_z-of_z}
 use Rattle.std.specs.Int.{w128}
 use Rattle.edit_ops.proofs.Coordinates.{coordinate-none, coordinate-number, in_32_bits-converted}

@@ -1,0 +1,161 @@
+ghost use Rattle.std.specs.Prelude.{◌≡◌, ℕ, ◌+◌, ◌≤◌, ◌++◌, ◌∷◌, [], length, decimal, Ok, OnOk, OnErr, FitsSigned, if◌then◌else◌};
+ghost use Rattle.std.specs.Fmt.{signed_decimal};
+ghost use Rattle.std.specs.Int.{w32};
+ghost use Rattle.view_meaning.specs.Classes.{top_class};
+ghost use Rattle.edit_ops.specs.Edit.{IsPoint};
+ghost use Rattle.edit_ops.specs.EditLine.{edit_of};
+ghost use Rattle.edit_ops.specs.Canonical.{run_text, classes_text, canonical};
+
+use crate::edit::Edit;
+use crate::runs::next_run;
+use class_bits::ClassSet;
+use itoa::Buffer;
+use view_base::{Bytes, OutOfMemory, Point};
+
+/// The most bytes of a class list: 7 for a run of classes and 1 for the comma before it.
+const LIST: usize = 2048;
+
+/// The most bytes of a canonical line: `edit`, six spaces and coordinates, a space and the class
+/// list, a space and the class.
+const LINE: usize = 4 + 6 * 12 + 1 + LIST + 4;
+
+/// Appends the canonical line of an edit, without an end of line. A refusal is want of memory and
+/// leaves the bytes as they were.
+pub fn edit_text(edit: &Edit, out: &mut Bytes) -> Result<(), OutOfMemory>
+    ensures appended { OnOk result (out.new.items ≡ out.old.items ++ canonical edit.now) }
+    ensures refused { OnErr result (out.new.items ≡ out.old.items) }
+    ensures reads_back { OnOk result ((format : ℕ) → edit.now.to ≤ top_class format
+        → edit_of (canonical edit.now) format ≡ Ok edit.now) }
+{
+    out.reserve(LINE)?;
+    append(out, b"edit");
+    append_corner(out, edit.area.min);
+    append_corner(out, edit.area.max);
+    append(out, b" ");
+    append_classes(out, &edit.from);
+    append(out, b" ");
+    append_class(out, edit.to);
+    Ok(())
+}
+
+/// Appends a space and a coordinate, three times.
+fn append_corner(out: &mut Bytes, corner: Point)
+    requires { 36 ≤ out.old.spare }
+    ensures appended { out.new.items ≡ out.old.items
+        ++ (32 ∷ signed_decimal corner.x)
+        ++ (32 ∷ signed_decimal corner.y)
+        ++ (32 ∷ signed_decimal corner.z) }
+    ensures room { out.old.spare ≤ out.new.spare + 36 }
+    ensures corner { IsPoint corner }
+{
+    append_coordinate(out, corner.x);
+    append_coordinate(out, corner.y);
+    append_coordinate(out, corner.z);
+}
+
+/// Appends a space and a coordinate.
+fn append_coordinate(out: &mut Bytes, number: i32)
+    requires { 12 ≤ out.old.spare }
+    ensures appended { out.new.items ≡ out.old.items ++ (32 ∷ signed_decimal number) }
+    ensures room { out.old.spare ≤ out.new.spare + 12 }
+    ensures fits { FitsSigned w32 number }
+{
+    let mut digits = Buffer::new();
+    append(out, b" ");
+    append(out, digits.format(number).as_bytes());
+}
+
+/// Appends a class in decimal.
+fn append_class(out: &mut Bytes, class: u8)
+    requires { 3 ≤ out.old.spare }
+    ensures appended { out.new.items ≡ out.old.items ++ decimal class }
+    ensures room { out.old.spare ≤ out.new.spare + 3 }
+    ensures class { class ≤ 255 }
+{
+    let mut digits = Buffer::new();
+    append(out, digits.format(class).as_bytes());
+}
+
+/// Appends a run of classes.
+fn append_run(out: &mut Bytes, first: u8, last: u8)
+    requires { 7 ≤ out.old.spare }
+    ensures appended { out.new.items ≡ out.old.items ++ run_text (first, last) }
+    ensures room { out.old.spare ≤ out.new.spare + 7 }
+{
+    append_class(out, first);
+    if first != last {
+        append(out, b"-");
+        append_class(out, last);
+    }
+}
+
+/// Appends a set of classes.
+fn append_classes(out: &mut Bytes, classes: &ClassSet)
+    requires { LIST ≤ out.old.spare }
+    ensures appended { out.new.items ≡ out.old.items ++ classes_text classes.now }
+    ensures room { out.old.spare ≤ out.new.spare + LIST }
+{
+    if *classes == ClassSet::all() {
+        append(out, b"all");
+        return;
+    }
+    let mut from = 0;
+    while let Some((first, last)) = next_run(classes, from) {
+        append_item(out, from == 0, first, last);
+        from = u16::from(last) + 1;
+    }
+}
+
+/// Appends an item of a class list, after a comma where it isn't the first.
+fn append_item(out: &mut Bytes, is_first: bool, first: u8, last: u8)
+    requires { 8 ≤ out.old.spare }
+    ensures appended { out.new.items ≡ out.old.items
+        ++ (if is_first then run_text (first, last) else 44 ∷ run_text (first, last)) }
+    ensures room { out.old.spare ≤ out.new.spare + 8 }
+{
+    if !is_first {
+        append(out, b",");
+    }
+    append_run(out, first, last);
+}
+
+/// Appends a piece that fits in the room.
+fn append(out: &mut Bytes, piece: &[u8])
+    requires { length piece.now ≤ out.old.spare }
+    ensures appended { out.new.items ≡ out.old.items ++ piece.now }
+    ensures room { out.old.spare ≤ out.new.spare + length piece.now }
+{
+    let done = out.append(piece);
+    done.unwrap();
+}
+
+#[cfg(test)]
+mod tests {
+    use super::*;
+    use crate::reading::read_edit;
+    use std::test::Fail;
+
+    #[test]
+    fn a_line_is_written_canonically(rt: HostRuntime) -> Result<(), Fail> {
+        for (line, canonical) in [
+            (
+                b"edit 007 -0 0 9 9 9 3,1-2,2 06".as_slice(),
+                b"edit 7 0 0 9 9 9 1-3 6".as_slice(),
+            ),
+            (
+                b" edit\t-2147483648 0 0 0 0 2147483647 0-255 255".as_slice(),
+                b"edit -2147483648 0 0 0 0 2147483647 all 255".as_slice(),
+            ),
+            (
+                b"edit 0 0 0 0 0 0 255,7,9-10,0 0".as_slice(),
+                b"edit 0 0 0 0 0 0 0,7,9-10,255 0".as_slice(),
+            ),
+        ] {
+            let edit = read_edit(line, 6)?;
+            let mut text = Bytes::new(rt.alloc());
+            edit_text(&edit, &mut text)?;
+            assert_eq!(rt; text.as_slice(), canonical);
+        }
+        Ok(())
+    }
+}
