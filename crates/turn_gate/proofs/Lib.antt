@@ -1,1 +1,4 @@
-
+pub mod Beginnings
+pub mod Makers
+pub mod Totals
+pub mod Views

@@ -4,6 +4,7 @@ use mathlib.Core.List.{IsPrefix}
 use mathlib.Core.Option.{some}
 use lib.ListN.{get_elem?}
 use Rattle.turn_gate.specs.declared.view.View.{View}
+use Rattle.turn_gate.specs.Homes.{Homes}
 use Rattle.turn_gate.specs.Meaning.{made_by}
 
 -- 1 for a fact that holds, else 0
@@ -51,7 +52,7 @@ module _ {E : Type 0} (replays : List E → Type 0) (maker : E → ℕ) where
     pub worker : v.root ≡ false → (v.out ≡ 0) × (v.given ≡ 0) × (v.kept ≡ [])
 
   -- is: the value may stand for the history. Of the words the first is the number of views in a turn, which is 0 or 1, and the second the length of the history. While no view is in a turn, the slot has the value that stands for the history, which is legal, and some view has seen it whole. While a caller has the value, the slot is empty. One live view is the root, which knows how many others there are. Each number given is one live view's or one joined pass's, and each entry has such a number
-  pub record IsKept {S : Type 0} (is : S → List E → Type 0) (log : List E) (words : List ℕ) (homes : List (Option (Option S))) (views : List (View E)) : Type 0 where
+  pub record IsKept {S : Type 0} (is : S → List E → Type 0) (log : List E) (words : List ℕ) (homes : Homes (Option S)) (views : List (View E)) : Type 0 where
     pub places : length words ≡ 3
     pub turn : slice_index words 0 ≡ total (λ v. one_if v.inside) views
     pub one : total (λ v. one_if v.inside) views ≤ 1
@@ -67,5 +68,5 @@ module _ {E : Type 0} (replays : List E → Type 0) (maker : E → ℕ) where
     pub each : (id : ℕ) (v : View E) → get_elem? views id ≡ some v → IsFitting log v
 
   -- the rule, of some history
-  abbrev pub IsKeptSome : {S : Type 0} → (S → List E → Type 0) → List ℕ → List (Option (Option S)) → List (View E) → Type 0
+  abbrev pub IsKeptSome : {S : Type 0} → (S → List E → Type 0) → List ℕ → Homes (Option S) → List (View E) → Type 0
   IsKeptSome is words homes views = (log : List E) × IsKept is log words homes views

@@ -9,15 +9,15 @@ use Rattle.turn_gate.specs.Meaning.{Passed, Turned, made_by, longer, shorter}
 module _ {E : Type 0} where
   -- the first view: it has the turn, and its caller has the value
   abbrev pub root_view : View E
-  root_view = record { who = 0; seen = []; mine = []; inside = true; away = true; noted = []; root = true; out = 0; given = 0; kept = []; met = []; live = true }
+  root_view = record { marker = record {}; who = 0; seen = []; mine = []; inside = true; away = true; noted = []; root = true; out = 0; given = 0; kept = []; met = []; live = true }
 
   -- the view of a pass that was split off
   abbrev pub worker_view : ℕ → List E → View E
-  worker_view who seen = record { who = who; seen = seen; mine = []; inside = false; away = false; noted = []; root = false; out = 0; given = 0; kept = []; met = []; live = true }
+  worker_view who seen = record { marker = record {}; who = who; seen = seen; mine = []; inside = false; away = false; noted = []; root = false; out = 0; given = 0; kept = []; met = []; live = true }
 
   -- what is left of a view that was joined
   abbrev pub spent_view : View E
-  spent_view = record { who = 0; seen = []; mine = []; inside = false; away = false; noted = []; root = false; out = 0; given = 0; kept = []; met = []; live = false }
+  spent_view = record { marker = record {}; who = 0; seen = []; mine = []; inside = false; away = false; noted = []; root = false; out = 0; given = 0; kept = []; met = []; live = false }
 
   -- the view of a badge, which has one
   abbrev pub view_of : List (View E) → View E
