@@ -1,6 +1,10 @@
 -- Beginnings of one list.
-use Rattle.std.proofs.Common.{◌≡◌, ℕ, ◌≤◌, List, [], ◌∷◌, ◌++◌, length, refl, ap, sym, ◌∙◌, arith, append_assoc, length-append}
+use Rattle.std.proofs.Common.{◌≡◌, ℕ, ◌<◌, ◌≤◌, max, nat_lt, true, false, ◌⊎◌, inl, inr, ⊎_elim, subst, List, [], ◌∷◌, ◌++◌, length, refl, ap, sym, ◌∙◌, arith, append_assoc, length-append}
+use Rattle.std.proofs.lemmas.Bool.Decides.{nat_tests}
 use mathlib.Core.List.{IsPrefix}
+use mathlib.Core.Logic.{dite}
+use native.Mathlib.Decide.{dec_le}
+use Rattle.turn_gate.specs.Meaning.{longer, shorter}
 
 -- each list begins with itself
 pub prefix_self : {A : Type 0} (xs : List A) → IsPrefix xs xs
@@ -36,3 +40,47 @@ prefix_whole (x ∷ xs) (y ∷ ys) p le =
 
 pub prefix_length : {A : Type 0} (xs ys : List A) → IsPrefix xs ys → length xs ≤ length ys
 prefix_length xs ys p = omega (arith, sym (ap length p.1) ∙ length-append xs p.0)
+
+not_below : (m n : ℕ) → n ≤ m → nat_lt m n ≡ false
+not_below m n le = grind (arith, nat_tests)
+
+below : (m n : ℕ) → m < n → nat_lt m n ≡ true
+below m n low = grind (arith, nat_tests)
+
+-- which of two lists is the longer
+pub longer_is : {A : Type 0} (xs ys : List A) → ((length xs < length ys) × (longer xs ys ≡ ys) × (shorter xs ys ≡ xs)) ⊎ ((length ys ≤ length xs) × (longer xs ys ≡ xs) × (shorter xs ys ≡ ys))
+longer_is xs ys =
+    dite (dec_le (length ys) (length xs))
+    (λ h. let no : nat_lt (length xs) (length ys) ≡ false = not_below (length xs) (length ys) h in inr (h, rw no refl, rw no refl))
+    (λ h. let yes : nat_lt (length xs) (length ys) ≡ true = below (length xs) (length ys) (omega (arith, h)) in inl (omega (arith, h), rw yes refl, rw yes refl))
+
+-- what holds of both lists holds of the longer one
+pub longer_has : {A : Type 0} (P : List A → Type 0) (xs ys : List A) → P xs → P ys → P (longer xs ys)
+longer_has P xs ys one other = ⊎_elim (λ h. subst P (sym h.1) other) (λ h. subst P (sym h.1) one) (longer_is xs ys)
+
+pub longer-length : {A : Type 0} (xs ys : List A) → length (longer xs ys) ≡ max (length xs) (length ys)
+longer-length xs ys = ⊎_elim (λ h. ap length h.1 ∙ omega (arith, h.0)) (λ h. ap length h.1 ∙ omega (arith, h.0)) (longer_is xs ys)
+
+-- of two beginnings of one list
+pub longer_first : {A : Type 0} (xs ys zs : List A) → IsPrefix xs zs → IsPrefix ys zs → IsPrefix xs (longer xs ys)
+longer_first xs ys zs p q =
+    ⊎_elim (λ h. subst (IsPrefix xs) (sym h.1) (prefix_shorter xs ys zs p q (omega (arith, h.0)))) (λ h. subst (IsPrefix xs) (sym h.1) (prefix_self xs)) (longer_is xs ys)
+
+pub longer_second : {A : Type 0} (xs ys zs : List A) → IsPrefix xs zs → IsPrefix ys zs → IsPrefix ys (longer xs ys)
+longer_second xs ys zs p q =
+    ⊎_elim (λ h. subst (IsPrefix ys) (sym h.1) (prefix_self ys)) (λ h. subst (IsPrefix ys) (sym h.1) (prefix_shorter ys xs zs q p h.0)) (longer_is xs ys)
+
+pub shorter_longer : {A : Type 0} (xs ys zs : List A) → IsPrefix xs zs → IsPrefix ys zs → IsPrefix (shorter xs ys) (longer xs ys)
+shorter_longer xs ys zs p q =
+    ⊎_elim
+    (λ h. subst (λ l. IsPrefix l (longer xs ys)) (sym h.2) (longer_first xs ys zs p q))
+    (λ h. subst (λ l. IsPrefix l (longer xs ys)) (sym h.2) (longer_second xs ys zs p q))
+    (longer_is xs ys)
+
+-- where the shorter begins the longer, both do
+pub both_begin : {A : Type 0} (xs ys : List A) → IsPrefix (shorter xs ys) (longer xs ys) → IsPrefix xs (longer xs ys) × IsPrefix ys (longer xs ys)
+both_begin xs ys p =
+    ⊎_elim
+    (λ h. (subst (λ l. IsPrefix l (longer xs ys)) h.2 p, subst (IsPrefix ys) (sym h.1) (prefix_self ys)))
+    (λ h. (subst (IsPrefix xs) (sym h.1) (prefix_self xs), subst (λ l. IsPrefix l (longer xs ys)) h.2 p))
+    (longer_is xs ys)

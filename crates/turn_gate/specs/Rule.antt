@@ -38,7 +38,7 @@ module _ {E : Type 0} (replays : List E → Type 0) (maker : E → ℕ) where
   AreOf log [] = Unit {0}
   AreOf log (k ∷ ks) = (made_by maker k.0 log ≡ k.1) × AreOf log ks
 
-  -- What a view has seen is a beginning of the history and legal, and its own entries are those of the history by its number; outside a turn it has seen them all. In a turn it knows the whole history. What was joined has nothing left, and only the root has passes out
+  -- What a view has seen is a beginning of the history and legal, and its own entries are those of the history by its number; outside a turn it has seen them all. In a turn it knows the whole history. What was joined has nothing left, and only the root, whose number is 0, has passes out
   pub record IsFitting (log : List E) (v : View E) : Type 0 where
     pub seen : IsPrefix v.seen log
     pub met : IsPrefix v.met v.seen
@@ -49,6 +49,7 @@ module _ {E : Type 0} (replays : List E → Type 0) (maker : E → ℕ) where
     pub away : v.away ≡ true → v.inside ≡ true
     pub kept : AreOf log v.kept
     pub joined : v.live ≡ false → (v.root ≡ false) × (v.inside ≡ false) × (v.seen ≡ [])
+    pub first : v.root ≡ true → v.who ≡ 0
     pub worker : v.root ≡ false → (v.out ≡ 0) × (v.given ≡ 0) × (v.kept ≡ [])
 
   -- is: the value may stand for the history. Of the words the first is the number of views in a turn, which is 0 or 1, and the second the length of the history. While no view is in a turn, the slot has the value that stands for the history, which is legal, and some view has seen it whole. While a caller has the value, the slot is empty. One live view is the root, which knows how many others there are. Each number given is one live view's or one joined pass's, and each entry has such a number

@@ -62,13 +62,28 @@ pub(crate) fn wait<S: Replayed>(gate: &Gate<S>, rt: &impl Wait, pass: &mut Pass<
     requires gate { pass.old.gate ≡ gate.now.name }
     ensures pass { pass.new ≡ pass.old }
 {
-    let shared = &gate.table.shared;
+    if !spin(gate) {
+        park(gate, rt, pass);
+    }
+}
+
+/// Looks at the turn word for a short time, and says whether it was free.
+fn spin<S: Replayed>(gate: &Gate<S>) -> bool {
     for _ in 0..SPINS {
-        if shared.peek(TURN) == 0 {
-            return;
+        if gate.table.shared.peek(TURN) == 0 {
+            return true;
         }
         spin_loop();
     }
+    false
+}
+
+/// Parks until the turn is given back, for a bounded time.
+fn park<S: Replayed>(gate: &Gate<S>, rt: &impl Wait, pass: &mut Pass<S::Entry>)
+    requires gate { pass.old.gate ≡ gate.now.name }
+    ensures pass { pass.new ≡ pass.old }
+{
+    let shared = &gate.table.shared;
     let mut seat = replace(&mut pass.badge, Badge::blank()).into_seat();
     shared.fetch_add::<Stay>(&mut seat, PARKED, 1);
     shared.park_timeout(rt, TURN, 1, Duration::from_millis(NAP_MILLIS));
