@@ -1,5 +1,5 @@
 -- What the rule says once the root is the only pass left.
-use Rattle.std.proofs.Common.{◌≡◌, ℕ, zero, suc, ◌+◌, ◌<◌, ◌≤◌, ◌==◌, nat_lt, Bool, true, false, ◌⊎◌, inl, inr, ⊎_elim, List, [], ◌∷◌, length, slice_set, map, All, Contains, Option, Some, refl, sym, ap, subst, ◌∙◌, arith, if◌then◌else◌}
+use Rattle.std.proofs.Common.{◌≡◌, ℕ, zero, suc, ◌+◌, ◌<◌, ◌≤◌, ◌==◌, nat_lt, Bool, true, false, ◌⊎◌, inl, inr, ⊎_elim, List, [], ◌∷◌, length, slice_set, map, All, Contains, Option, None, Some, refl, sym, ap, subst, ◌∙◌, arith, if◌then◌else◌}
 use Rattle.std.proofs.lemmas.Bool.Decides.{nat_tests}
 use mathlib.Core.Logic.{dite}
 use mathlib.Core.Option.{some}
@@ -46,6 +46,13 @@ none_else false who n kept other has = omega arith
 root_number : (live : Bool) (who n kept : ℕ) → who ≡ 0 → 1 ≤ (if live then one_if (who == n) else 0) + kept → (n ≡ 0) ⊎ (1 ≤ kept)
 root_number live who n kept zero_is has =
     dite (ℕ_discrete n 0) (λ e. inl e) (λ other. inr (none_else live who n kept (λ e. other (sym e ∙ zero_is)) has))
+
+-- a place has one value
+pub same_home : {S : Type 0} (slots : List (Option S)) (a b : S) (r : Option S) → get_elem? slots 0 ≡ some (Some a) → get_elem? slots 0 ≡ some r → r ≡ Some b → b ≡ a
+same_home slots a b r one other is = cc (one, other, is)
+
+pub no_home : {S : Type 0} (slots : List (Option S)) (a : S) (r : Option S) → get_elem? slots 0 ≡ some (Some a) → get_elem? slots 0 ≡ some r → r ≡ None → ⊥
+no_home slots a r one other is = cc (one, other, is)
 
 -- what a closed gate has
 pub record IsClosed {S E : Type 0} (replays : List E → Type 0) (maker : E → ℕ) (is : S → List E → Type 0) (v : View E) (slots : List (Option S)) : Type 0 where

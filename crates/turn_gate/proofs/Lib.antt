@@ -12,3 +12,4 @@ pub mod Others
 pub mod Parting
 pub mod Merging
 pub mod Closing
+pub mod Opening

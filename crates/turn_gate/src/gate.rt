@@ -41,6 +41,7 @@ impl<S: Replayed> Gate<S> {
         ensures settled { IfOk result (λ r. IsSettled (S.replays (S.base value)) S.maker r.1) }
         ensures refused { IfErr result (λ r. r.1 ≡ value) }
     {
+        value.tell();
         let Ok((table, seat)) = Table::vacant(alloc, &[1, 0, 0], 1, &value) else {
             return Err((OutOfMemory, value));
         };
@@ -69,11 +70,8 @@ impl<S: Replayed> Gate<S> {
         ensures own { made_by S.maker pass.old.who (S.entries result.1) ≡ pass.old.mine }
     {
         for _ in rt.forever() {
-            if let Some(value) = turns::take_turn::<S, Brand>(self, pass) {
-                let turn = Turn {
-                    pass: Snapshot::of(&pass.badge),
-                };
-                return (turn, value);
+            if let Some(found) = turns::take_turn::<S, Brand>(self, pass) {
+                return found;
             }
             turns::wait(self, rt, pass);
         }

@@ -35,14 +35,15 @@ const NAP_MILLIS: u64 = 1;
 pub(crate) fn take_turn<S: Replayed, N: Named<S>>(
     gate: &Gate<S>,
     pass: &mut Pass<S::Entry>,
-) -> Option<S>
+) -> Option<(Turn<S::Entry>, S)>
     requires picked { N.firsts ≡ gate.now.first ∷ [] }
     requires gate { pass.old.gate ≡ gate.now.name }
     requires outside { pass.old.turn ≡ None }
-    ensures pass { IfSome result (λ value. pass.new ≡ record pass.old { turn = Some (S.entries value) }) }
-    ensures base { IfSome result (λ value. S.base value ≡ S.base gate.now.first) }
-    ensures seen { IfSome result (λ value. IsPrefix pass.old.seen (S.entries value)) }
-    ensures own { IfSome result (λ value. made_by S.maker pass.old.who (S.entries value) ≡ pass.old.mine) }
+    ensures pass { IfSome result (λ r. pass.new ≡ record pass.old { turn = Some (S.entries r.1) }) }
+    ensures turn { IfSome result (λ r. r.0 ≡ record { gate = gate.now.name; who = pass.old.who; noted = S.entries r.1 }) }
+    ensures base { IfSome result (λ r. S.base r.1 ≡ S.base gate.now.first) }
+    ensures seen { IfSome result (λ r. IsPrefix pass.old.seen (S.entries r.1)) }
+    ensures own { IfSome result (λ r. made_by S.maker pass.old.who (S.entries r.1) ≡ pass.old.mine) }
     ensures lost { IfNone result (pass.new ≡ pass.old) }
 {
     let shared = &gate.table.shared;
@@ -54,7 +55,13 @@ pub(crate) fn take_turn<S: Replayed, N: Named<S>>(
     let value = shared.exchange(&mut seat, VALUE, None);
     shared.load::<Empty>(&mut seat, TURN);
     pass.badge = seat.into_badge();
-    value
+    let turn = Turn {
+        pass: Snapshot::of(&pass.badge),
+    };
+    match value {
+        Some(value) => Some((turn, value)),
+        None => unreachable!(),
+    }
 }
 
 /// Lets the holder of the turn go on, and returns when the turn may be free.
