@@ -13,8 +13,11 @@ use Rattle.turn_gate.proofs.Inside.{one_inside, others_outside, not_away}
 use Rattle.turn_gate.proofs.Views.{each_set, not_both, set_self}
 
 -- a slot that was taken last has one value
-pub same_slot : {A : Type 0} (k : ℕ) (a b : A) (xs ys all : List (ℕ × A)) → all ≡ (k, a) ∷ xs → all ≡ (k, b) ∷ ys → b ≡ a
-same_slot {A} k a b xs ys all one other = let pairs : (k, b) ≡ (k, a) = cc (one, other) in ap (λ (p : ℕ × A). p.1) pairs
+pub same_slot : {A : Type 0} (k : ℕ) (a b : A) (found : Option A) (xs ys all : List (ℕ × Option A)) → all ≡ (k, Some a) ∷ xs → all ≡ (k, found) ∷ ys → found ≡ Some b → b ≡ a
+same_slot {A} k a b found xs ys all one other is =
+    let pairs : (k, found) ≡ (k, Some a) = cc (one, other) in
+    let same : found ≡ Some a = ap (λ (p : ℕ × Option A). p.1) pairs in
+    cc (same, is)
 
 module _ {S E : Type 0} (replays : List E → Type 0) (maker : E → ℕ) (is : S → List E → Type 0) where
   -- the value was handed out or is back, while the view is in a turn

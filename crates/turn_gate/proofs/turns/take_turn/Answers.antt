@@ -57,6 +57,6 @@ returns-clause-seen g c =
     let v = view_of c.pass.inside.badge.views in
     let here : v ≡ seat.me.0 = ap (λ b. view_of b.views) (sym c.replace.ensures.value) ∙ ap view_of c.into_seat-seat.ensures.2 in
     let won = c.compare_exchange.ensures.2.won c.if-compare_exchange-ne0.false in
-    let value : c.exchange-value.result ≡ Some won.0 = same_slot 0 (Some won.0) c.exchange-value.result seat.me.1 (rest c.compare_exchange.new.seat.me.1) c.compare_exchange.new.seat.me.1 won.2 c.exchange-value.ensures.2 in
+    let value : c.in-Some.value ≡ won.0 = same_slot 0 won.0 c.in-Some.value c.exchange-value.result seat.me.1 (rest c.compare_exchange.new.seat.me.1) c.compare_exchange.new.seat.me.1 won.2 c.exchange-value.ensures.2 c.in-Some.is in
     let seen : seat.me.0.seen ≡ c.args.pass.now.seen = ap (λ u. u.seen) (sym here) ∙ ap (λ p. p.seen) c.pass.view_is in
-    rw value (subst (λ l. IsPrefix l (g.S.Replayed.entries won.0)) seen won.3)
+    subst (λ l. IsPrefix l (g.S.Replayed.entries c.in-Some.value)) seen (subst (λ x. IsPrefix seat.me.0.seen (g.S.Replayed.entries x)) (sym value) won.3)
