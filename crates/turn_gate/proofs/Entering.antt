@@ -60,16 +60,16 @@ module _ {S E : Type 0} (replays : List E → Type 0) (maker : E → ℕ) (is : 
             (λ j u apart there. kept.each j u there);
       }
 
-  pub enter_allows : (entries : S → List E) (based : S → Type 0) (slots id : ℕ) (me : Me (Option S) (View E))
-      → ((value : S) (log : List E) → is value log → (entries value ≡ log) × based value) → me.0.live ≡ true → me.0.inside ≡ false
-      → Allows (λ s. IsKeptSome replays maker is s.words s.homes s.views) slots id me 0 (λ n. either (n == 0) 1 n) (Enters entries maker based (step slots 0 0 1 none) me)
-  enter_allows entries based slots id me tells live outside = λ s kept homes at small.
+  pub enter_allows : (entries : S → List E) (based : S → Type 0) (legal : List E → Type 0) (slots id : ℕ) (me : Me (Option S) (View E))
+      → ((value : S) (log : List E) → is value log → (entries value ≡ log) × based value) → ((log : List E) → replays log → legal log) → me.0.live ≡ true → me.0.inside ≡ false
+      → Allows (λ s. IsKeptSome replays maker is s.words s.homes s.views) slots id me 0 (λ n. either (n == 0) 1 n) (Enters entries maker based legal (step slots 0 0 1 none) me)
+  enter_allows entries based legal slots id me tells allows live outside = λ s kept homes at small.
       let log = kept.0 in
       let rule = kept.1 in
       let found = slice_index s.words 0 in
       let After : ℕ → Type 0 = λ m. (w : View E) × (a : Act (Option S)) × Rattle.atomic_table.specs.Table.Valid s.homes me.1 a
           × IsKeptSome replays maker is (slice_set s.words 0 m) (Rattle.atomic_table.specs.Table.homes_after s.homes me.1 a) (slice_set s.views id w)
-          × Enters entries maker based (step slots 0 0 1 none) me found (w, Rattle.atomic_table.specs.Table.carried_after me.1 a) in
+          × Enters entries maker based legal (step slots 0 0 1 none) me found (w, Rattle.atomic_table.specs.Table.carried_after me.1 a) in
       exchanged found 0 1 After
       (λ free.
         let home = rule.home (sym rule.turn ∙ free) in
@@ -81,7 +81,7 @@ module _ {S E : Type 0} (replays : List E → Type 0) (maker : E → ℕ) (is : 
           home.1,
           (log, enter_keeps log s.words s.homes s.views id me.0 free live outside rule at),
           record {
-            won = λ h. (value, ap (entered me.0) (sym told.0), refl, subst (IsPrefix me.0.seen) (sym told.0) fit.seen, ap (made_by maker me.0.who) told.0 ∙ fit.own live, told.1);
+            won = λ h. (value, ap (entered me.0) (sym told.0), refl, subst (IsPrefix me.0.seen) (sym told.0) fit.seen, ap (made_by maker me.0.who) told.0 ∙ fit.own live, told.1, allows me.0.seen (fit.legal live), fit.settled live outside);
             lost = λ no. absurd (no free);
           },
         ))

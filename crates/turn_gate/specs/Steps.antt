@@ -62,9 +62,9 @@ OfFirst P [] = Unit {0}
 OfFirst P (f ∷ fs) = P f
 
 module _ {S E : Type 0} where
-  -- where the word was 0 the turn is taken, with a value that stands for the history; what was seen is a beginning of it, and it has the pass's own entries. Else nothing changed
-  pub record Enters (entries : S → List E) (maker : E → ℕ) (based : S → Type 0) (s : Step (Option S)) (before : Me (Option S) (View E)) (found : ℕ) (after : Me (Option S) (View E)) : Type 0 where
-    pub won : found ≡ 0 → (value : S) × (after.0 ≡ entered before.0 (entries value)) × (after.1 ≡ (0, Some value) ∷ before.1) × IsPrefix before.0.seen (entries value) × (made_by maker before.0.who (entries value) ≡ before.0.mine) × based value
+  -- where the word was 0 the turn is taken, with a value that stands for the history; what was seen is a legal beginning of it, and both have the pass's own entries. Else nothing changed
+  pub record Enters (entries : S → List E) (maker : E → ℕ) (based : S → Type 0) (legal : List E → Type 0) (s : Step (Option S)) (before : Me (Option S) (View E)) (found : ℕ) (after : Me (Option S) (View E)) : Type 0 where
+    pub won : found ≡ 0 → (value : S) × (after.0 ≡ entered before.0 (entries value)) × (after.1 ≡ (0, Some value) ∷ before.1) × IsPrefix before.0.seen (entries value) × (made_by maker before.0.who (entries value) ≡ before.0.mine) × based value × legal before.0.seen × (made_by maker before.0.who before.0.seen ≡ before.0.mine)
     pub lost : ¬ (found ≡ 0) → after ≡ before
 
   -- the slot went home, empty

@@ -68,6 +68,7 @@ impl<S: Replayed> Gate<S> {
         ensures base { S.base result.1 ≡ S.base self.now.first }
         ensures seen { IsPrefix pass.old.seen (S.entries result.1) }
         ensures own { made_by S.maker pass.old.who (S.entries result.1) ≡ pass.old.mine }
+        ensures settled { IsSettled (S.replays (S.base self.now.first)) S.maker pass.old }
     {
         for _ in rt.forever() {
             if let Some(found) = turns::take_turn::<S, Brand>(self, pass) {

@@ -55,7 +55,7 @@ impl<S: Replayed, N: Named<S>> Play<Option<S>, View<S::Entry>> for Enter<S, N> {
     ghost use Rattle.std.specs.Prelude.{◌≡◌};
     ghost use Rattle.turn_gate.specs.Steps.{Enters, OfFirst};
 
-    ghost then = { Enters S.entries S.maker (λ value. OfFirst (λ first. S.base value ≡ S.base first) N.firsts) };
+    ghost then = { Enters S.entries S.maker (λ value. OfFirst (λ first. S.base value ≡ S.base first) N.firsts) (λ seen. OfFirst (λ first. S.replays (S.base first) seen) N.firsts) };
 }
 
 /// Brings the slot home once the value is out.

@@ -44,6 +44,7 @@ pub(crate) fn take_turn<S: Replayed, N: Named<S>>(
     ensures base { IfSome result (λ r. S.base r.1 ≡ S.base gate.now.first) }
     ensures seen { IfSome result (λ r. IsPrefix pass.old.seen (S.entries r.1)) }
     ensures own { IfSome result (λ r. made_by S.maker pass.old.who (S.entries r.1) ≡ pass.old.mine) }
+    ensures settled { IfSome result (λ r. IsSettled (S.replays (S.base gate.now.first)) S.maker pass.old) }
     ensures lost { IfNone result (pass.new ≡ pass.old) }
 {
     let shared = &gate.table.shared;

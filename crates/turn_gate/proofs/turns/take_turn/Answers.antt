@@ -21,8 +21,10 @@ compare_exchange-requires g c =
       search rules,
       search rules,
       enter_allows (g.S.Replayed.replays (g.S.Replayed.base first)) g.S.Replayed.maker (λ value log. (g.S.Replayed.entries value ≡ log) × (g.S.Replayed.base value ≡ g.S.Replayed.base first))
-          g.S.Replayed.entries (λ value. OfFirst (λ f. g.S.Replayed.base value ≡ g.S.Replayed.base f) g.N.Named.firsts) c.gate.inside.table.shared.table_id.slots seat.id seat.me
+          g.S.Replayed.entries (λ value. OfFirst (λ f. g.S.Replayed.base value ≡ g.S.Replayed.base f) g.N.Named.firsts)
+          (λ seen. OfFirst (λ f. g.S.Replayed.replays (g.S.Replayed.base f) seen) g.N.Named.firsts) c.gate.inside.table.shared.table_id.slots seat.id seat.me
           (λ value log h. (h.0, subst (OfFirst (λ f. g.S.Replayed.base value ≡ g.S.Replayed.base f)) (sym picked) h.1))
+          (λ log h. subst (OfFirst (λ f. g.S.Replayed.replays (g.S.Replayed.base f) log)) (sym picked) h)
           (ap (λ u. u.live) (sym here) ∙ c.pass.invariant.1) (ap (λ u. u.inside) (sym here) ∙ outside),
     )
 
