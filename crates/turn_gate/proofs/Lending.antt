@@ -12,12 +12,15 @@ use Rattle.turn_gate.proofs.Totals.{total-set, most-set}
 use Rattle.turn_gate.proofs.Inside.{one_inside, others_outside, not_away}
 use Rattle.turn_gate.proofs.Views.{each_set, not_both, set_self}
 
+some_one : {A : Type 0} (a b : A) → Some a ≡ Some b → a ≡ b
+some_one a b is = cc
+
 -- a slot that was taken last has one value
 pub same_slot : {A : Type 0} (k : ℕ) (a b : A) (found : Option A) (xs ys all : List (ℕ × Option A)) → all ≡ (k, Some a) ∷ xs → all ≡ (k, found) ∷ ys → found ≡ Some b → b ≡ a
 same_slot {A} k a b found xs ys all one other is =
     let pairs : (k, found) ≡ (k, Some a) = cc (one, other) in
     let same : found ≡ Some a = ap (λ (p : ℕ × Option A). p.1) pairs in
-    cc (same, is)
+    some_one b a (sym is ∙ same)
 
 module _ {S E : Type 0} (replays : List E → Type 0) (maker : E → ℕ) (is : S → List E → Type 0) where
   -- the value was handed out or is back, while the view is in a turn

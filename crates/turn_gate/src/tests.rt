@@ -201,8 +201,12 @@ fn run_four<R: Threads + Wait + Abort + Sync>(
 {
     join_mut(
         rt,
-        &mut || run_two(rt, gate, one, two),
-        &mut || run_two(rt, gate, three, four),
+        &mut ||
+            requires { (one.now.gate ≡ gate.now.name) × (two.now.gate ≡ gate.now.name) × (one.now.turn ≡ None) × (two.now.turn ≡ None) }
+        { run_two(rt, gate, one, two) },
+        &mut ||
+            requires { (three.now.gate ≡ gate.now.name) × (four.now.gate ≡ gate.now.name) × (three.now.turn ≡ None) × (four.now.turn ≡ None) }
+        { run_two(rt, gate, three, four) },
     );
 }
 
