@@ -9,7 +9,7 @@ use Rattle.atomic_table.specs.Table.{Final, Seen}
 use Rattle.turn_gate.specs.declared.view.View.{View}
 use Rattle.turn_gate.specs.Homes.{Homes}
 use Rattle.turn_gate.specs.Meaning.{made_by}
-use Rattle.turn_gate.specs.Rule.{one_if, total, most_seen, has_number, kept_times, AreOf, IsFitting, IsKept, IsKeptSome}
+use Rattle.turn_gate.specs.Rule.{one_if, total, most_seen, has_number, kept_times, AreOf, IsKept, IsKeptSome}
 use Rattle.turn_gate.specs.Steps.{spent_view}
 use Rattle.turn_gate.proofs.Beginnings.{prefix_whole}
 use Rattle.turn_gate.proofs.Inside.{one_if-false}
@@ -93,16 +93,16 @@ module _ {S E : Type 0} (replays : List E → Type 0) (maker : E → ℕ) (is : 
     root_has n =
         let rest : total (has_number n) (slice_set views id spent_view) ≡ 0 = total-zero (has_number n) (slice_set views id spent_view)
         (each_set (λ u. has_number n u ≡ 0) views id spent_view refl (λ j u apart there.
-          let gone = rest_joined j u apart there in
-          ap (λ (b : Bool). (if b then one_if (u.who == n) else 0) + kept_times n u.kept) gone.0 ∙ ap (λ (ks : List (ℕ × List E)). 0 + kept_times n ks) gone.3)) in
+        let gone = rest_joined j u apart there in
+        ap (λ (b : Bool). (if b then one_if (u.who == n) else 0) + kept_times n u.kept) gone.0 ∙ ap (λ (ks : List (ℕ × List E)). 0 + kept_times n ks) gone.3)) in
         omega (arith, rest, total-set (has_number n) views id v spent_view at)
 
     closed_makers : All (λ e. (maker e ≡ 0) ⊎ Contains (map (λ k. k.0) v.kept) (maker e)) log
     closed_makers =
         all_map (λ e. maker e < total (λ (u : View E). u.given) views + 1) (λ e. (maker e ≡ 0) ⊎ Contains (map (λ k. k.0) v.kept) (maker e)) log
         (λ e low.
-          let has : 1 ≤ has_number (maker e) v = given_once (maker e) (total (λ (u : View E). u.given) views) (has_number (maker e) v) low (sym (root_has (maker e)) ∙ kept.numbers (maker e)) in
-          ⊎_elim (λ h. inl h) (λ h. inr (kept_contains (maker e) v.kept h)) (root_number v.live v.who (maker e) (kept_times (maker e) v.kept) ((kept.each id v at).first root) has))
+        let has : 1 ≤ has_number (maker e) v = given_once (maker e) (total (λ (u : View E). u.given) views) (has_number (maker e) v) low (sym (root_has (maker e)) ∙ kept.numbers (maker e)) in
+        ⊎_elim (λ h. inl h) (λ h. inr (kept_contains (maker e) v.kept h)) (root_number v.live v.who (maker e) (kept_times (maker e) v.kept) ((kept.each id v at).first root) has))
         kept.makers
 
   pub closed_is : (id : ℕ) (v : View E) (ws : List ℕ) (slots : List (Option S)) → v.root ≡ true → v.live ≡ true → v.out ≡ 0 → v.inside ≡ false

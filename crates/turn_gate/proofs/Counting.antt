@@ -1,20 +1,18 @@
 -- Counting an entry keeps the rule.
-use Rattle.std.proofs.Common.{◌≡◌, ℕ, zero, suc, ◌+◌, ◌%◌, ◌^◌, ◌<◌, ◌≤◌, ◌==◌, nat_lt, Bool, true, false, List, [], ◌∷◌, ◌++◌, length, slice_set, slice_index, All, Option, None, refl, sym, ap, subst, ◌∙◌, arith, mod-eq_of_lt, length-append, if◌then◌else◌}
+use Rattle.std.proofs.Common.{◌≡◌, ℕ, ◌+◌, ◌%◌, ◌^◌, ◌<◌, ◌≤◌, ◌==◌, nat_lt, Bool, true, false, List, [], ◌∷◌, ◌++◌, length, slice_set, slice_index, Option, None, refl, sym, ap, subst, ◌∙◌, arith, mod-eq_of_lt, length-append, if◌then◌else◌}
 use Rattle.std.proofs.lemmas.Bool.Decides.{nat_tests}
 use Rattle.std.proofs.lemmas.List.{length-set, get_or-set_same, get_or-set_other}
-use mathlib.Core.List.{IsPrefix}
 use mathlib.Core.Option.{some, none}
 use lib.ListN.{get_elem?}
 use Rattle.atomic_table.specs.Table.{Me, keeps, Allows, step}
 use Rattle.turn_gate.specs.declared.view.View.{View}
 use Rattle.turn_gate.specs.Homes.{Homes}
-use Rattle.turn_gate.specs.Meaning.{made_by}
 use Rattle.turn_gate.specs.Rule.{one_if, total, has_number, kept_times, IsFitting, IsKept, IsKeptSome}
 use Rattle.turn_gate.specs.Steps.{counted, Counts}
 use Rattle.turn_gate.proofs.Beginnings.{prefix_append, prefix_trans}
 use Rattle.turn_gate.proofs.Makers.{made_by_own, made_by_other, all_snoc, are_of_more}
-use Rattle.turn_gate.proofs.Totals.{total-set, total_has, total_two, most-set}
-use Rattle.turn_gate.proofs.Inside.{one_inside, others_outside, not_away}
+use Rattle.turn_gate.proofs.Totals.{total-set, total_has, total_two}
+use Rattle.turn_gate.proofs.Inside.{one_inside, others_outside}
 use Rattle.turn_gate.proofs.Views.{each_set, not_both}
 
 -- a live view has its own number
@@ -109,7 +107,7 @@ module _ {S E : Type 0} (replays : List E → Type 0) (maker : E → ℕ) (is : 
               worker = fit.worker;
             })
             (λ j u apart there. fits_more log e u (subst (λ n. has_number n u ≡ 0) (sym own) (number_apart log words homes views kept id j v u live at apart there))
-              (others_outside views id j v u kept.one inside at apart there) (kept.each j u there));
+            (others_outside views id j v u kept.one inside at apart there) (kept.each j u there));
       }
 
   pub count_allows : (slots id : ℕ) (me : Me (Option S) (View E)) (more : List E) (e : E)

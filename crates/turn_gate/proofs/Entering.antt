@@ -1,5 +1,5 @@
 -- Taking the turn keeps the rule.
-use Rattle.std.proofs.Common.{◌≡◌, ℕ, zero, suc, ◌+◌, ◌^◌, ◌<◌, ◌≤◌, ◌==◌, true, false, List, [], ◌∷◌, length, slice_set, slice_index, Option, None, Some, refl, sym, ap, subst, ◌∙◌, arith}
+use Rattle.std.proofs.Common.{◌≡◌, ℕ, ◌==◌, true, false, List, slice_set, slice_index, Option, None, Some, refl, sym, ap, subst, ◌∙◌, arith}
 use Rattle.std.proofs.lemmas.List.{length-set, get_or-set_same, get_or-set_other}
 use mathlib.Core.List.{IsPrefix}
 use mathlib.Core.Option.{some, none}
@@ -12,7 +12,7 @@ use Rattle.turn_gate.specs.Homes.{Homes}
 use Rattle.turn_gate.specs.Meaning.{made_by}
 use Rattle.turn_gate.specs.Rule.{one_if, total, has_number, IsFitting, IsKept, IsKeptSome}
 use Rattle.turn_gate.specs.Steps.{entered, Enters}
-use Rattle.turn_gate.proofs.Totals.{total-set, most-set}
+use Rattle.turn_gate.proofs.Totals.{total-set}
 use Rattle.turn_gate.proofs.Inside.{one_if-false, none_inside, not_away}
 use Rattle.turn_gate.proofs.Views.{each_set, not_both, set_self}
 
@@ -68,29 +68,29 @@ module _ {S E : Type 0} (replays : List E → Type 0) (maker : E → ℕ) (is : 
       let rule = kept.1 in
       let found = slice_index s.words 0 in
       let After : ℕ → Type 0 = λ m. (w : View E) × (a : Act (Option S)) × Rattle.atomic_table.specs.Table.Valid s.homes me.1 a
-          × IsKeptSome replays maker is (slice_set s.words 0 m) (Rattle.atomic_table.specs.Table.homes_after s.homes me.1 a) (slice_set s.views id w)
-          × Enters entries maker based legal (step slots 0 0 1 none) me found (w, Rattle.atomic_table.specs.Table.carried_after me.1 a) in
+      × IsKeptSome replays maker is (slice_set s.words 0 m) (Rattle.atomic_table.specs.Table.homes_after s.homes me.1 a) (slice_set s.views id w)
+      × Enters entries maker based legal (step slots 0 0 1 none) me found (w, Rattle.atomic_table.specs.Table.carried_after me.1 a) in
       exchanged found 0 1 After
       (λ free.
-        let home = rule.home (sym rule.turn ∙ free) in
-        let value = home.0 in
-        let told = tells value log home.2 in
-        let fit = rule.each id me.0 at in (
-          entered me.0 log,
-          takes 0 (Some value),
-          home.1,
-          (log, enter_keeps log s.words s.homes s.views id me.0 free live outside rule at),
-          record {
-            won = λ h. (value, ap (entered me.0) (sym told.0), refl, subst (IsPrefix me.0.seen) (sym told.0) fit.seen, ap (made_by maker me.0.who) told.0 ∙ fit.own live, told.1, allows me.0.seen (fit.legal live), fit.settled live outside);
-            lost = λ no. absurd (no free);
-          },
-        ))
+      let home = rule.home (sym rule.turn ∙ free) in
+      let value = home.0 in
+      let told = tells value log home.2 in
+      let fit = rule.each id me.0 at in (
+        entered me.0 log,
+        takes 0 (Some value),
+        home.1,
+        (log, enter_keeps log s.words s.homes s.views id me.0 free live outside rule at),
+        record {
+          won = λ h. (value, ap (entered me.0) (sym told.0), refl, subst (IsPrefix me.0.seen) (sym told.0) fit.seen, ap (made_by maker me.0.who) told.0 ∙ fit.own live, told.1, allows me.0.seen (fit.legal live), fit.settled live outside);
+          lost = λ no. absurd (no free);
+        },
+      ))
       (λ taken.
-        let same_words : slice_set s.words 0 found ≡ s.words = set_self s.words 0 (omega (arith, rule.places)) in
-        let same_views : slice_set s.views id me.0 ≡ s.views = set_again s.views id me.0 at in (
-          me.0,
-          keeps,
-          tt,
-          (log, rw (same_words, same_views) rule),
-          record { won = λ h. absurd (taken h); lost = λ no. refl },
-        ))
+      let same_words : slice_set s.words 0 found ≡ s.words = set_self s.words 0 (omega (arith, rule.places)) in
+      let same_views : slice_set s.views id me.0 ≡ s.views = set_again s.views id me.0 at in (
+        me.0,
+        keeps,
+        tt,
+        (log, rw (same_words, same_views) rule),
+        record { won = λ h. absurd (taken h); lost = λ no. refl },
+      ))

@@ -1,14 +1,14 @@
 -- Bringing the slot home empty, and taking it again, keep the rule.
-use Rattle.std.proofs.Common.{◌≡◌, ℕ, zero, suc, ◌+◌, ◌^◌, ◌<◌, ◌≤◌, Bool, true, false, List, [], ◌∷◌, length, slice_set, slice_index, Option, None, Some, refl, sym, ap, subst, ◌∙◌, arith}
+use Rattle.std.proofs.Common.{◌≡◌, ℕ, ◌<◌, Bool, true, false, List, ◌∷◌, slice_set, slice_index, Option, None, Some, refl, sym, ap, ◌∙◌, arith}
 use mathlib.Core.Option.{some, none}
 use lib.ListN.{get_elem?}
-use Rattle.atomic_table.specs.Table.{Me, takes, gives, rest, Allows, step}
+use Rattle.atomic_table.specs.Table.{Me, takes, gives, Allows, step}
 use Rattle.atomic_table.proofs.Lists.{set_here}
 use Rattle.turn_gate.specs.declared.view.View.{View}
 use Rattle.turn_gate.specs.Homes.{Homes}
 use Rattle.turn_gate.specs.Rule.{one_if, total, has_number, IsFitting, IsKept, IsKeptSome}
 use Rattle.turn_gate.specs.Steps.{lent, Empties, Fetches}
-use Rattle.turn_gate.proofs.Totals.{total-set, most-set}
+use Rattle.turn_gate.proofs.Totals.{total-set}
 use Rattle.turn_gate.proofs.Inside.{one_inside, others_outside, not_away}
 use Rattle.turn_gate.proofs.Views.{each_set, not_both, set_self}
 

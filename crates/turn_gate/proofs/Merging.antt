@@ -1,5 +1,5 @@
 -- Joining a pass keeps the rule.
-use Rattle.std.proofs.Common.{◌≡◌, ℕ, ◌+◌, ◌-◌, ◌<◌, ◌≤◌, ◌==◌, max, nat_lt, Bool, true, false, List, [], ◌∷◌, ◌++◌, length, slice_set, All, Option, None, refl, sym, ap, subst, ◌∙◌, arith, if◌then◌else◌}
+use Rattle.std.proofs.Common.{◌≡◌, ℕ, ◌+◌, ◌≤◌, ◌==◌, max, Bool, true, false, List, [], ◌∷◌, length, slice_set, Option, None, refl, sym, ap, ◌∙◌, arith, if◌then◌else◌}
 use mathlib.Core.List.{IsPrefix}
 use mathlib.Core.Option.{some}
 use lib.ListN.{get_elem?}
@@ -7,7 +7,7 @@ use Rattle.atomic_table.specs.Table.{Joins}
 use Rattle.atomic_table.proofs.Lists.{set_else}
 use Rattle.turn_gate.specs.declared.view.View.{View}
 use Rattle.turn_gate.specs.Homes.{Homes}
-use Rattle.turn_gate.specs.Meaning.{longer, shorter}
+use Rattle.turn_gate.specs.Meaning.{longer}
 use Rattle.turn_gate.specs.Rule.{one_if, total, most_seen, has_number, kept_times, IsFitting, IsKept, IsKeptSome}
 use Rattle.turn_gate.specs.Steps.{merged, spent_view}
 use Rattle.turn_gate.proofs.Beginnings.{longer_has, longer-length, longer_first, shorter_longer}

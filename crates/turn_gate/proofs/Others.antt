@@ -1,10 +1,10 @@
 -- The views beside the root's.
-use Rattle.std.proofs.Common.{◌≡◌, ℕ, ◌+◌, ◌≤◌, Bool, true, false, List, [], Option, slice_set, refl, sym, ap, arith}
+use Rattle.std.proofs.Common.{◌≡◌, ℕ, ◌≤◌, true, false, List, [], Option, slice_set, refl, arith}
 use mathlib.Core.Option.{some}
 use lib.ListN.{get_elem?}
 use Rattle.turn_gate.specs.declared.view.View.{View}
 use Rattle.turn_gate.specs.Homes.{Homes}
-use Rattle.turn_gate.specs.Rule.{one_if, total, has_number, kept_times, IsFitting, IsKept}
+use Rattle.turn_gate.specs.Rule.{one_if, total, IsFitting, IsKept}
 use Rattle.turn_gate.specs.Steps.{spent_view}
 use Rattle.turn_gate.proofs.Beginnings.{prefix_nil}
 use Rattle.turn_gate.proofs.Inside.{one_if-zero, one_if-true}

@@ -1,5 +1,5 @@
 -- Splitting a pass off keeps the rule.
-use Rattle.std.proofs.Common.{◌≡◌, ℕ, ◌+◌, ◌<◌, ◌≤◌, ◌==◌, max, nat_lt, Bool, true, false, List, [], ◌∷◌, ◌++◌, length, slice_set, All, Option, None, refl, sym, ap, subst, ◌∙◌, arith}
+use Rattle.std.proofs.Common.{◌≡◌, ℕ, ◌+◌, ◌<◌, ◌≤◌, ◌==◌, max, nat_lt, true, false, List, [], ◌∷◌, ◌++◌, length, slice_set, All, Option, None, refl, sym, ap, subst, ◌∙◌, arith}
 use Rattle.std.proofs.lemmas.Bool.Decides.{nat_tests}
 use mathlib.Core.Option.{some}
 use lib.ListN.{get_elem?}
@@ -13,7 +13,7 @@ use Rattle.turn_gate.proofs.Beginnings.{prefix_nil, prefix_whole}
 use Rattle.turn_gate.proofs.Makers.{made_by_none, made_by_prefix, all_weaker}
 use Rattle.turn_gate.proofs.Others.{total_given}
 use Rattle.turn_gate.proofs.Totals.{total_split, most-set, most-snoc, most_has}
-use Rattle.turn_gate.proofs.Views.{at-set_here, each_set, each_snoc, not_both}
+use Rattle.turn_gate.proofs.Views.{each_set, each_snoc, not_both}
 
 -- one more number is given
 part_number : (n given : ℕ) → one_if (nat_lt n (given + 1)) + one_if (given + 1 == n) ≡ one_if (nat_lt n (given + 1 + 1))
@@ -67,20 +67,20 @@ module _ {S E : Type 0} (replays : List E → Type 0) (maker : E → ℕ) (is : 
               worker = λ h. (refl, refl, refl);
             })
             (each_set (IsFitting replays maker log) views id l
-              (record {
-                seen = fit.seen;
-                met = fit.met;
-                legal = fit.legal;
-                own = fit.own;
-                settled = fit.settled;
-                turn = fit.turn;
-                away = fit.away;
-                kept = fit.kept;
-                joined = λ h. absurd (not_both v.live live h);
-                first = fit.first;
-                worker = λ h. absurd (not_both v.root root h);
-              })
-              (λ j u apart there. kept.each j u there));
+            (record {
+              seen = fit.seen;
+              met = fit.met;
+              legal = fit.legal;
+              own = fit.own;
+              settled = fit.settled;
+              turn = fit.turn;
+              away = fit.away;
+              kept = fit.kept;
+              joined = λ h. absurd (not_both v.live live h);
+              first = fit.first;
+              worker = λ h. absurd (not_both v.root root h);
+            })
+            (λ j u apart there. kept.each j u there));
       }
 
   pub part_splits : (id : ℕ) (v : View E) → v.root ≡ true → v.live ≡ true

@@ -1,10 +1,10 @@
 -- Giving the turn back keeps the rule.
-use Rattle.std.proofs.Common.{◌≡◌, ℕ, zero, suc, ◌+◌, ◌^◌, ◌<◌, ◌≤◌, max, true, false, List, [], ◌∷◌, length, slice_set, slice_index, Option, None, Some, refl, sym, ap, subst, ◌∙◌, arith}
+use Rattle.std.proofs.Common.{◌≡◌, ℕ, ◌<◌, ◌≤◌, max, true, false, List, ◌∷◌, length, slice_set, Option, Some, refl, sym, ap, subst, ◌∙◌, arith}
 use Rattle.std.proofs.lemmas.List.{length-set, get_or-set_same, get_or-set_other}
 use mathlib.Core.List.{IsPrefix}
 use mathlib.Core.Option.{some, none}
 use lib.ListN.{get_elem?}
-use Rattle.atomic_table.specs.Table.{Me, gives, Allows, step}
+use Rattle.atomic_table.specs.Table.{gives, Allows, step}
 use Rattle.atomic_table.proofs.Lists.{set_here}
 use Rattle.turn_gate.specs.declared.view.View.{View}
 use Rattle.turn_gate.specs.Homes.{Homes}

@@ -79,12 +79,7 @@ fn push<R: Abort>(rt: &R, tape: &mut Tape, who: u32, number: u32)
 }
 
 /// One entry in one turn.
-fn add_in_turn<R: Wait + Abort>(
-    rt: &R,
-    gate: &Gate<Tape>,
-    pass: &mut Pass<(u32, u32)>,
-    number: u32,
-)
+fn add_in_turn<R: Wait + Abort>(rt: &R, gate: &Gate<Tape>, pass: &mut Pass<(u32, u32)>, number: u32)
     requires gate { pass.old.gate ≡ gate.now.name }
     requires outside { pass.old.turn ≡ None }
     ensures pass { pass.new ≡ record pass.old { seen = pass.new.seen; mine = pass.old.mine ++ (pass.old.who, number) ∷ [] } }
@@ -160,7 +155,9 @@ fn four_threads_lose_no_entry(rt: HostRuntime) -> Result<(), Fail> {
     gate.join(&mut root, four);
     let tape = gate.close(root);
     assert!(rt; tape.items.len() == 4 * TURNS as usize);
-    assert!(rt; is_whole(&tape, 1) && is_whole(&tape, 2) && is_whole(&tape, 3) && is_whole(&tape, 4));
+    assert!(rt;
+        is_whole(&tape, 1) && is_whole(&tape, 2) && is_whole(&tape, 3) && is_whole(&tape, 4)
+    );
     Ok(())
 }
 

@@ -116,9 +116,7 @@ pub(crate) fn count<S: Replayed, M: More<S::Entry>>(
 {
     let _ = value;
     let mut seat = replace(&mut pass.badge, Badge::blank()).into_seat();
-    gate.table
-        .shared
-        .fetch_add::<Count<M>>(&mut seat, COUNT, 1);
+    gate.table.shared.fetch_add::<Count<M>>(&mut seat, COUNT, 1);
     pass.badge = seat.into_badge();
     turn.pass = Snapshot::of(&pass.badge);
 }

@@ -1,4 +1,4 @@
-use Rattle.std.proofs.Common.{◌≡◌, ◌+◌, ◌^◌, ◌<◌, ◌++◌, ◌∷◌, [], true, length, drop, List, Some, rules, arith, sym, ap, subst, ◌∙◌, length-append}
+use Rattle.std.proofs.Common.{◌≡◌, ◌++◌, ◌∷◌, [], length, drop, List, rules, arith, sym, ap, ◌∙◌, length-append}
 use Rattle.std.proofs.Math.Seq.{drop-append_seam}
 use Rattle.turn_gate.specs.Steps.{view_of}
 use Rattle.turn_gate.proofs.Counting.{count_allows}

@@ -1,4 +1,4 @@
-use Rattle.std.proofs.Common.{◌≡◌, ◌∷◌, [], true, false, List, Option, None, Some, rules, arith, sym, ap, subst, ◌∙◌}
+use Rattle.std.proofs.Common.{◌≡◌, List, Option, rules, arith, sym, ap, subst, ◌∙◌}
 use mathlib.Core.Option.{none}
 use Rattle.atomic_table.specs.Table.{Me, Allows, step, rest}
 use Rattle.turn_gate.specs.declared.view.View.{View}
@@ -39,13 +39,13 @@ swap-requires g c =
     let legal : g.S.Replayed.replays (g.S.Replayed.base first) entries = subst (λ f. g.S.Replayed.replays (g.S.Replayed.base f) entries) (sym key) c.requires.legal in
     let P : Me (Option g.row.S.Denot) (View g.row.S-Entry.Denot) → Type 0 =
     λ me. Allows (λ s. IsKeptSome (g.S.Replayed.replays (g.S.Replayed.base first)) g.S.Replayed.maker (λ value log. (g.S.Replayed.entries value ≡ log) × (g.S.Replayed.base value ≡ g.S.Replayed.base first)) s.words s.homes s.views)
-        slots c.exchange.new.seat.id me 0 (λ n. 0) (Settles g.S.Replayed.maker (step slots 0 0 0 none) me) in (
+    slots c.exchange.new.seat.id me 0 (λ n. 0) (Settles g.S.Replayed.maker (step slots 0 0 0 none) me) in (
       search rules,
       search rules,
-      subst P (sym c.exchange.ensures.3)
+      subst P (sym {A = Me (Option g.row.S.Denot) (View g.row.S-Entry.Denot)} c.exchange.ensures.3)
           (settle_allows (g.S.Replayed.replays (g.S.Replayed.base first)) g.S.Replayed.maker (λ value log. (g.S.Replayed.entries value ≡ log) × (g.S.Replayed.base value ≡ g.S.Replayed.base first))
-            slots c.exchange.new.seat.id after.0 c.args.value (rest after.1) (omega (arith, c.gate.invariant.1))
-            (ap (λ u. u.live) back ∙ ap (λ u. u.live) (sym here) ∙ c.pass.invariant.1) (ap (λ u. u.inside) back ∙ ap (λ u. u.inside) (sym here) ∙ in_turn.0) (ap (λ u. u.away) back)
-            (sym noted, c.requires.base ∙ ap (λ f. g.S.Replayed.base f) (sym key))
-            (subst (g.S.Replayed.replays (g.S.Replayed.base first)) (sym noted) legal)),
+          slots c.exchange.new.seat.id after.0 c.args.value (rest after.1) (omega (arith, c.gate.invariant.1))
+          (ap (λ u. u.live) back ∙ ap (λ u. u.live) (sym here) ∙ c.pass.invariant.1) (ap (λ u. u.inside) back ∙ ap (λ u. u.inside) (sym here) ∙ in_turn.0) (ap (λ u. u.away) back)
+          (sym noted, c.requires.base ∙ ap (λ f. g.S.Replayed.base f) (sym key))
+          (subst (g.S.Replayed.replays (g.S.Replayed.base first)) (sym noted) legal)),
     )

@@ -1,4 +1,4 @@
-use Rattle.std.proofs.Common.{◌≡◌, ◌∷◌, [], true, false, List, Option, rules, arith, sym, ap, subst, ◌∙◌}
+use Rattle.std.proofs.Common.{◌≡◌, ◌∷◌, [], rules, sym, ap, subst, ◌∙◌}
 use Rattle.turn_gate.specs.Steps.{view_of, OfFirst}
 use Rattle.turn_gate.proofs.Inside.{outside_of}
 use Rattle.turn_gate.proofs.Looking.{look_allows}

@@ -1,7 +1,5 @@
-use Rattle.std.proofs.Common.{◌≡◌, ◌+◌, ◌∷◌, [], true, false, List, Option, rules, arith, sym, ap, subst, ◌∙◌}
-use mathlib.Core.Option.{none}
-use Rattle.atomic_table.specs.Table.{Me, Allows, step}
-use Rattle.turn_gate.specs.Steps.{view_of, OfFirst, worker_view}
+use Rattle.std.proofs.Common.{◌≡◌, ◌∷◌, [], rules, sym, ap, subst, ◌∙◌}
+use Rattle.turn_gate.specs.Steps.{view_of, OfFirst}
 use Rattle.turn_gate.proofs.Looking.{look_allows}
 use Rattle.turn_gate.proofs.Parting.{part_splits}
 use Rattle.turn_gate.proofs.turns.part.Goals as goal

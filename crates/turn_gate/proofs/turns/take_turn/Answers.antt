@@ -1,4 +1,4 @@
-use Rattle.std.proofs.Common.{◌≡◌, ◌∷◌, [], true, false, List, Option, None, Some, rules, arith, sym, ap, subst, ◌∙◌}
+use Rattle.std.proofs.Common.{◌≡◌, ◌∷◌, [], false, Option, Some, rules, arith, sym, ap, subst, ◌∙◌}
 use mathlib.Core.List.{IsPrefix}
 use mathlib.Core.Option.{none}
 use Rattle.atomic_table.specs.Table.{Me, Allows, step, rest}
@@ -44,13 +44,13 @@ load-requires g c =
     let after = c.compare_exchange.new.seat.me in
     let P : Me (Option g.row.S.Denot) (View g.row.S-Entry.Denot) → Type 0 =
     λ me. Allows (λ s. IsKeptSome (g.S.Replayed.replays (g.S.Replayed.base first)) g.S.Replayed.maker (λ value log. (g.S.Replayed.entries value ≡ log) × (g.S.Replayed.base value ≡ g.S.Replayed.base first)) s.words s.homes s.views)
-        slots c.exchange-value.new.seat.id me 0 (λ n. n) (Empties (step slots 0 0 0 none) me) in (
+    slots c.exchange-value.new.seat.id me 0 (λ n. n) (Empties (step slots 0 0 0 none) me) in (
       search rules,
       search rules,
-      subst P (sym c.exchange-value.ensures.3)
+      subst P (sym {A = Me (Option g.row.S.Denot) (View g.row.S-Entry.Denot)} c.exchange-value.ensures.3)
           (empty_allows (g.S.Replayed.replays (g.S.Replayed.base first)) g.S.Replayed.maker (λ value log. (g.S.Replayed.entries value ≡ log) × (g.S.Replayed.base value ≡ g.S.Replayed.base first))
-            slots c.exchange-value.new.seat.id after.0 (rest after.1) (omega (arith, c.gate.invariant.1))
-            (ap (λ u. u.live) won.1 ∙ ap (λ u. u.live) (sym here) ∙ c.pass.invariant.1) (ap (λ u. u.inside) won.1)),
+          slots c.exchange-value.new.seat.id after.0 (rest after.1) (omega (arith, c.gate.invariant.1))
+          (ap (λ u. u.live) won.1 ∙ ap (λ u. u.live) (sym here) ∙ c.pass.invariant.1) (ap (λ u. u.inside) won.1)),
     )
 
 pub returns-clause-seen : goal.returns-clause-seen

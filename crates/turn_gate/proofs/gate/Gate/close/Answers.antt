@@ -1,8 +1,8 @@
-use Rattle.std.proofs.Common.{◌≡◌, ℕ, ◌⊎◌, [], ◌∷◌, length, map, All, Contains, Option, None, Some, List, sym, ap, subst, ◌∙◌}
+use Rattle.std.proofs.Common.{◌≡◌, ◌⊎◌, map, All, Contains, Option, List, sym, ap, subst, ◌∙◌}
 use Rattle.std.specs.Slots.{slots_items}
 use Rattle.turn_gate.specs.Meaning.{made_by}
 use Rattle.turn_gate.specs.Steps.{view_of}
-use Rattle.turn_gate.proofs.Closing.{IsClosed, closed_is, same_home, no_home}
+use Rattle.turn_gate.proofs.Closing.{closed_is, same_home, no_home}
 use Rattle.turn_gate.proofs.Inside.{outside_of}
 use Rattle.turn_gate.proofs.gate.Gate.close.Goals as goal
 
