@@ -1,0 +1,15 @@
+pub mod Beginnings
+pub mod Makers
+pub mod Totals
+pub mod Views
+pub mod Inside
+pub mod Entering
+pub mod Lending
+pub mod Counting
+pub mod Settling
+pub mod Looking
+pub mod Others
+pub mod Parting
+pub mod Merging
+pub mod Closing
+pub mod Opening

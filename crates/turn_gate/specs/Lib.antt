@@ -1,0 +1,4 @@
+pub mod Homes
+pub mod Meaning
+pub mod Rule
+pub mod Steps
