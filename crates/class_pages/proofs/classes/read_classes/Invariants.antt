@@ -1,0 +1,7 @@
+use Rattle.view_meaning.specs.Survey.{format_of, class_byte}
+use Rattle.view_meaning.specs.Classes.{class_of}
+use Rattle.class_pages.proofs.Steps.{IsMadeBelow}
+use Rattle.class_pages.proofs.classes.read_classes.Given as goal
+
+abbrev pub invariant-loop-i : goal.invariant-loop-i
+invariant-loop-i l = IsMadeBelow l.i (λ k. class_of (format_of l.survey) (class_byte l.survey k)) l.fn.list l.list

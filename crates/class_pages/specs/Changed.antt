@@ -1,0 +1,13 @@
+-- The classes after one more edit, and how many of them are other than before.
+use Rattle.std.specs.Prelude.{ℕ, ◌==◌, not, List, map, length, slice_index, count_by}
+use Rattle.std.specs.List.{range_with_len}
+use Rattle.view_meaning.specs.Survey.{point_of}
+use Rattle.view_meaning.specs.Classes.{Edit, class_after}
+
+-- the classes of all records after one more edit
+unfoldable pub after_edit : List ℕ → List ℕ → Edit → List ℕ
+after_edit b cs edit = map (λ i. class_after (point_of b i) (slice_index cs i) edit) (range_with_len 0 (length cs))
+
+-- at how many places two lists of classes differ
+unfoldable pub changed : List ℕ → List ℕ → ℕ
+changed old new = count_by (λ i. not (slice_index old i == slice_index new i)) (range_with_len 0 (length old))
