@@ -2,9 +2,8 @@
 //! status other than done on standard error, and ends with the status's code.
 #![tactic(auto)]
 
-use std::env;
-use std::io;
 use std::process::ExitCode;
+use std::{env, io};
 use view_commands::{Status, code, run};
 use view_ends::{HostDesk, NoBeside};
 
@@ -29,7 +28,12 @@ fn ended(rt: &HostRuntime) -> Status {
     let Ok(own) = rt.clone() else {
         return Status::Memory;
     };
-    run(rt.alloc(), &words, &mut HostDesk::new(own, rt.alloc()), &NoBeside)
+    run(
+        rt.alloc(),
+        &words,
+        &mut HostDesk::new(own, rt.alloc()),
+        &NoBeside,
+    )
 }
 
 /// How a run ends whose words were not read.
