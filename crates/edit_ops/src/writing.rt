@@ -12,15 +12,17 @@ use class_bits::ClassSet;
 use itoa::Buffer;
 use view_base::{Bytes, OutOfMemory, Point};
 
-/// The most bytes of a class list: 7 for a run of classes and 1 for the comma before it.
-const LIST: usize = 2048;
+/// The most bytes of a class list: for each class 7 for its run, as `100-255`, and a comma.
+const LIST: usize = 256 * 8;
 
 /// The most bytes of a canonical line: `edit`, six spaces and coordinates, a space and the class
 /// list, a space and the class.
 const LINE: usize = 4 + 6 * 12 + 1 + LIST + 4;
 
-/// Appends the canonical line of an edit, without an end of line. A refusal is want of memory and
-/// leaves the bytes as they were.
+/// Appends the canonical line of an edit, without an end of line: single spaces, no leading zeros,
+/// and the classes as `all` or by their longest runs. It makes room for the longest line first, and
+/// a refusal is want of that room and leaves the bytes as they were. Reading the line gives the
+/// edit again, for each format that has room for its class.
 pub fn edit_text(edit: &Edit, out: &mut Bytes) -> Result<(), OutOfMemory>
     ensures appended { OnOk result (out.new.items ≡ out.old.items ++ canonical edit.now) }
     ensures refused { OnErr result (out.new.items ≡ out.old.items) }
@@ -38,7 +40,7 @@ pub fn edit_text(edit: &Edit, out: &mut Bytes) -> Result<(), OutOfMemory>
     Ok(())
 }
 
-/// Appends a space and a coordinate, three times.
+/// Appends a space and a coordinate, three times: at most 36 bytes.
 fn append_corner(out: &mut Bytes, corner: Point)
     requires { 36 ≤ out.old.spare }
     ensures appended { out.new.items ≡ out.old.items
@@ -53,7 +55,7 @@ fn append_corner(out: &mut Bytes, corner: Point)
     append_coordinate(out, corner.z);
 }
 
-/// Appends a space and a coordinate.
+/// Appends a space and a coordinate: at most 12 bytes, as ` -2147483648`.
 fn append_coordinate(out: &mut Bytes, number: i32)
     requires { 12 ≤ out.old.spare }
     ensures appended { out.new.items ≡ out.old.items ++ (32 ∷ signed_decimal number) }
@@ -65,7 +67,7 @@ fn append_coordinate(out: &mut Bytes, number: i32)
     append(out, digits.format(number).as_bytes());
 }
 
-/// Appends a class in decimal.
+/// Appends a class in decimal: at most 3 bytes.
 fn append_class(out: &mut Bytes, class: u8)
     requires { 3 ≤ out.old.spare }
     ensures appended { out.new.items ≡ out.old.items ++ decimal class }
@@ -76,7 +78,7 @@ fn append_class(out: &mut Bytes, class: u8)
     append(out, digits.format(class).as_bytes());
 }
 
-/// Appends a run of classes.
+/// Appends a run of classes: at most 7 bytes.
 fn append_run(out: &mut Bytes, first: u8, last: u8)
     requires { 7 ≤ out.old.spare }
     ensures appended { out.new.items ≡ out.old.items ++ run_text (first, last) }
@@ -106,7 +108,7 @@ fn append_classes(out: &mut Bytes, classes: &ClassSet)
     }
 }
 
-/// Appends an item of a class list, after a comma where it isn't the first.
+/// Appends an item of a class list, after a comma where it isn't the first: at most 8 bytes.
 fn append_item(out: &mut Bytes, is_first: bool, first: u8, last: u8)
     requires { 8 ≤ out.old.spare }
     ensures appended { out.new.items ≡ out.old.items
