@@ -13,6 +13,7 @@ use Rattle.turn_gate.specs.Rule.{one_if, total, most_seen, has_number, kept_time
 use Rattle.turn_gate.specs.Steps.{spent_view}
 use Rattle.turn_gate.proofs.Beginnings.{prefix_whole}
 use Rattle.turn_gate.proofs.Inside.{one_if-false}
+use Rattle.turn_gate.proofs.Makers.{all_weaker}
 use Rattle.turn_gate.proofs.Others.{others_joined}
 use Rattle.turn_gate.proofs.Totals.{total-set, total-zero, most-set, most_below}
 use Rattle.turn_gate.proofs.Views.{each_set}
@@ -29,11 +30,6 @@ pub all_are : {E : Type 0} (replays : List E → Type 0) (maker : E → ℕ) (lo
 all_are replays maker log [] each k d low = absurd (omega arith)
 all_are replays maker log (k ∷ ks) each zero d low = each.0
 all_are replays maker log (k ∷ ks) each (suc i) d low = all_are replays maker log ks each.1 i d (omega arith)
-
-pub all_map : {E : Type 0} (P Q : E → Type 0) (xs : List E) → ((e : E) → P e → Q e) → All P xs → All Q xs
-all_map P Q [] stronger each k d low = absurd (omega arith)
-all_map P Q (x ∷ xs) stronger each zero d low = stronger x (each 0 d (omega arith))
-all_map P Q (x ∷ xs) stronger each (suc k) d low = all_map P Q xs stronger (λ i d' low'. each (suc i) d' (omega arith)) k d (omega arith)
 
 given_once : (n given has : ℕ) → n < given + 1 → has ≡ one_if (nat_lt n (given + 1)) → 1 ≤ has
 given_once n given has low is = grind (arith, nat_tests)
@@ -99,7 +95,7 @@ module _ {S E : Type 0} (replays : List E → Type 0) (maker : E → ℕ) (is : 
 
     closed_makers : All (λ e. (maker e ≡ 0) ⊎ Contains (map (λ k. k.0) v.kept) (maker e)) log
     closed_makers =
-        all_map (λ e. maker e < total (λ (u : View E). u.given) views + 1) (λ e. (maker e ≡ 0) ⊎ Contains (map (λ k. k.0) v.kept) (maker e)) log
+        all_weaker (λ e. maker e < total (λ (u : View E). u.given) views + 1) (λ e. (maker e ≡ 0) ⊎ Contains (map (λ k. k.0) v.kept) (maker e)) log
         (λ e low.
         let has : 1 ≤ has_number (maker e) v = given_once (maker e) (total (λ (u : View E). u.given) views) (has_number (maker e) v) low (sym (root_has (maker e)) ∙ kept.numbers (maker e)) in
         ⊎_elim (λ h. inl h) (λ h. inr (kept_contains (maker e) v.kept h)) (root_number v.live v.who (maker e) (kept_times (maker e) v.kept) ((kept.each id v at).first root) has))

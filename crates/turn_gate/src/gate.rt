@@ -5,7 +5,7 @@ ghost use Rattle.turn_gate.specs.Meaning.{IsSettled, IsTurnOf, longer, made_by};
 use crate::pass::{Pass, Turn};
 use crate::replayed::Replayed;
 use crate::rule::Rule;
-use crate::turns::{self, PARKED, TURN, VALUE};
+use crate::turns::{self, VALUE};
 use crate::view::View;
 use atomic_table::Table;
 use std::alloc::Global;
