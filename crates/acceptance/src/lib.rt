@@ -5,6 +5,8 @@
 #[cfg(test)]
 mod drawing;
 #[cfg(test)]
+mod dripping;
+#[cfg(test)]
 mod failing;
 #[cfg(test)]
 mod plain;

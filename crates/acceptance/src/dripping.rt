@@ -1,0 +1,67 @@
+ghost use Rattle.std.specs.Prelude.{ℕ, List, Option};
+
+use crate::plain::{ONE, plain};
+use las_survey::load;
+use std::test::Fail;
+use view_ends::{EndFault, Failed, Sink, Source, StillSink, StillSource, give_all};
+
+/// A source that gives one byte a call.
+#[derive(Drop)]
+struct DripSource {
+    inner: StillSource,
+}
+
+impl Source for DripSource {
+    ghost left = { λ s. ⟦<StillSource as Source>⟧.left s.inner };
+
+    ghost taken = { λ s. ⟦<StillSource as Source>⟧.taken s.inner };
+
+    ghost faults = { λ s. ⟦<StillSource as Source>⟧.faults s.inner };
+
+    fn take(&mut self, buf: &mut [u8]) -> Result<usize, Failed> {
+        let most = buf.len().min(1);
+        let n = self.inner.take(&mut buf[..most])?;
+        Ok(n)
+    }
+}
+
+/// A sink that takes one byte a call.
+#[derive(Drop)]
+struct DripSink {
+    inner: StillSink,
+}
+
+impl Sink for DripSink {
+    ghost got = { λ s. ⟦<StillSink as Sink>⟧.got s.inner };
+
+    ghost faults = { λ s. ⟦<StillSink as Sink>⟧.faults s.inner };
+
+    fn give(&mut self, piece: &[u8]) -> Result<usize, EndFault> {
+        let most = piece.len().min(1);
+        let n = self.inner.give(&piece[..most])?;
+        Ok(n)
+    }
+}
+
+#[test]
+fn a_survey_that_comes_byte_by_byte_is_the_same(rt: HostRuntime) -> Result<(), Fail> {
+    let bytes = plain(rt.alloc(), &ONE)?;
+    let mut source = DripSource {
+        inner: StillSource::new(plain(rt.alloc(), &ONE)?),
+    };
+    let survey = load(rt.alloc(), &mut source).expect(&rt, "a survey");
+    assert_eq!(rt; survey.bytes(), bytes.as_slice());
+    assert_eq!(rt; survey.records(), 1);
+    Ok(())
+}
+
+#[test]
+fn a_piece_that_goes_byte_by_byte_is_given_whole(rt: HostRuntime) -> Result<(), Fail> {
+    let bytes = plain(rt.alloc(), &ONE)?;
+    let mut sink = DripSink {
+        inner: StillSink::new(rt.alloc()),
+    };
+    assert_eq!(rt; give_all(&mut sink, bytes.as_slice()), Ok(()));
+    assert_eq!(rt; sink.inner.got(), bytes.as_slice());
+    Ok(())
+}
