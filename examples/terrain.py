@@ -172,7 +172,7 @@ def survey(records):
 
 
 def main():
-    if len(sys.argv) != 2:
+    if len(sys.argv) != 2 or sys.argv[1].startswith("-"):
         sys.exit("usage: terrain.py OUT.las")
     records = [record(*it) for part in (ground(), buildings(), trees()) for it in part]
     with open(sys.argv[1], "wb") as out:
