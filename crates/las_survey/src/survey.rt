@@ -1,5 +1,6 @@
 ghost use Rattle.std.specs.Prelude.{◌≡◌, ◌+◌, ◌*◌, ◌^◌, ◌<◌, ◌≤◌, length, take, drop};
-ghost use Rattle.view_meaning.specs.Survey.{IsPlain, record_at, record_count, record_length};
+ghost use Rattle.view_meaning.specs.Layout.{least_length};
+ghost use Rattle.view_meaning.specs.Survey.{IsPlain, format_of, record_at, record_count, record_length};
 
 use crate::header::Header;
 use std::marker::Model;
@@ -48,7 +49,8 @@ impl Survey {
 
     /// The header's fields.
     pub fn header(&self) -> &Header
-        ensures { IsHeaderOf self.now result.now }
+        ensures fields { IsHeaderOf self.now result.now }
+        ensures known { format_of self.now ≤ 10 }
     {
         &self.header
     }
@@ -68,6 +70,7 @@ impl Survey {
         ensures bytes { result.now ≡ take (record_length self.now) (drop (record_at self.now i) self.now) }
         ensures whole { length result.now ≡ record_length self.now }
         ensures least { 20 ≤ record_length self.now }
+        ensures fitting { least_length (format_of self.now) ≤ record_length self.now }
         ensures plain { IsPlain self.now }
     {
         let size = usize::from(self.header.length);

@@ -1,8 +1,9 @@
 -- Numbers at offsets in a part of a file.
 use Rattle.std.proofs.Common.{◌≡◌, ℕ, zero, suc, ◌+◌, ◌*◌, ◌≤◌, ◌<◌, List, get_or, take, drop, refl, ap, ◌∙◌, arith}
+use Rattle.view_base.specs.declared.place.Point.{Point}
 use Rattle.std.proofs.lemmas.List.{get_or-drop, get_or-take}
 use Rattle.byteorder.specs.Endian.{little_from, little_number}
-use Rattle.view_meaning.specs.Survey.{u8_at, u16_at, u32_at, u64_at, i32_at}
+use Rattle.view_meaning.specs.Survey.{u8_at, u16_at, u32_at, u64_at, i32_at, record_at, record_length, point_of}
 use Rattle.std.specs.Int.{cast_signed, w32}
 
 pub little_from-drop : (i n k : ℕ) (b : List ℕ) → little_from i n (drop k b) ≡ little_from (k + i) n b
@@ -53,3 +54,15 @@ u16_at_part at n i b fits = in_part at n i 2 b fits
 pub i32_at_part : (at n i : ℕ) (b : List ℕ) → i + 4 ≤ n → i32_at (take n (drop at b)) i ≡ i32_at b (at + i)
 unfolding i32_at
 i32_at_part at n i b fits = ap (cast_signed w32) (in_part at n i 4 b fits)
+
+-- the point of a record, from its bytes
+pub point-from_part : (b : List ℕ) (i : ℕ) (bytes : List ℕ) (p : Point) → 20 ≤ record_length b → bytes ≡ take (record_length b) (drop (record_at b i) b)
+    → p ≡ record { x = i32_at bytes 0; y = i32_at bytes 4; z = i32_at bytes 8 } → p ≡ point_of b i
+unfolding point_of
+point-from_part b i bytes p least taken read =
+    let here : record_at b i + 0 ≡ record_at b i = omega arith in
+    let part = take (record_length b) (drop (record_at b i) b) in
+    let x : i32_at part 0 ≡ i32_at b (record_at b i) = i32_at_part (record_at b i) (record_length b) 0 b (omega arith) ∙ ap (i32_at b) here in
+    let y : i32_at part 4 ≡ i32_at b (record_at b i + 4) = i32_at_part (record_at b i) (record_length b) 4 b (omega arith) in
+    let z : i32_at part 8 ≡ i32_at b (record_at b i + 8) = i32_at_part (record_at b i) (record_length b) 8 b (omega arith) in
+    cc (read, taken, x, y, z)

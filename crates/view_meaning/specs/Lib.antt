@@ -1,5 +1,7 @@
 pub mod Survey
+pub mod Layout
 pub mod Classes
+pub mod Saved
 pub mod Camera
 pub mod Picture
 pub mod Frame

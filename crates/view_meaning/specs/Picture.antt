@@ -68,13 +68,14 @@ rgb_colour rule b i (Some place) = channels rule (rgb_at b (record_at b i + plac
 abbrev pub grey : ℕ → List ℕ
 grey n = n ∷ n ∷ n ∷ []
 
--- the three bytes that show record i
+-- the three bytes that show record i, by each colouring
 abbrev pub colour_by : colouring.Colouring → List ℕ → List ℕ → ℕ → List ℕ
 colour_by Class b cs i = class_colour (slice_index cs i)
 colour_by Rgb16 b cs i = rgb_colour (λ n. n / 256) b i (rgb_place (format_of b))
 colour_by Rgb8 b cs i = rgb_colour (λ n. min n 255) b i (rgb_place (format_of b))
 colour_by Intensity b cs i = grey (intensity_of b i / 256)
 
+-- the three bytes that show record i under a colouring
 unfoldable pub colour : List ℕ → List ℕ → colouring.Colouring → ℕ → List ℕ
 colour b cs colouring i = colour_by colouring b cs i
 

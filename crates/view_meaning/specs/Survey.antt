@@ -62,6 +62,10 @@ record_count b = if u64_at b 247 == 0 then u32_at b 107 else u64_at b 247
 unfoldable pub record_at : List ℕ → ℕ → ℕ
 record_at b i = points_at b + i * record_length b
 
+-- where the point data records end
+unfoldable pub points_end : List ℕ → ℕ
+points_end b = points_at b + record_count b * record_length b
+
 -- X, Y and Z of record i, in the file's integer units
 unfoldable pub point_of : List ℕ → ℕ → Point
 point_of b i = record { x = i32_at b (record_at b i); y = i32_at b (record_at b i + 4); z = i32_at b (record_at b i + 8) }

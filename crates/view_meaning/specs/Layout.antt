@@ -1,0 +1,100 @@
+-- How a LAS file is laid out, and what is the first fault of one that is not (LAS 1.4 R15, public header
+-- block, variable length records and extended variable length records). The order of the faults is this
+-- project's own. All numbers are whole numbers without bound.
+use Rattle.std.specs.Prelude.{◌≡◌, ℕ, zero, suc, ◌+◌, ◌*◌, ◌==◌, ◌&&◌, nat_le, nat_lt, nat_eq, not, min, if◌then◌else◌, Bool, List, [], ◌∷◌, ◌++◌, length, slice_index, codes, Option, Some, None}
+use Rattle.std.specs.List.{starts_with, position, range_with_len}
+use Rattle.std.specs.Option.{option_map}
+use Rattle.view_meaning.specs.Survey.{u8_at, u16_at, u64_at, header_size, points_at, vlr_count, format_of, record_length, evlrs_at, evlr_count, points_end}
+
+-- what is wrong with a file, and the numbers that show it
+pub data Fault : Type 0 where
+  -- the bytes that there are
+  few_bytes : ℕ → Fault
+  no_signature : Fault
+  -- major and minor
+  other_version : ℕ → ℕ → Fault
+  small_header : ℕ → Fault
+  -- the format bytes
+  compressed : ℕ → Fault
+  unknown_format : ℕ → Fault
+  -- the record length, and the least of the format
+  short_record : ℕ → ℕ → Fault
+  early_points : ℕ → Fault
+  -- the number of the record, from 0, and where it begins
+  unfit_vlr : ℕ → ℕ → Fault
+  -- the bytes that the points need, and those that there are
+  missing_points : ℕ → ℕ → Fault
+  -- the number of the record, from 0, and where it begins
+  unfit_evlr : ℕ → ℕ → Fault
+
+-- the fault of a condition that does not hold
+abbrev pub unless : Bool → Fault → Option Fault
+unless holds fault = if holds then None else Some fault
+
+-- the first fault, if there is one
+abbrev pub first_fault : List (Option Fault) → Option Fault
+first_fault [] = None
+first_fault (None ∷ others) = first_fault others
+first_fault (Some fault ∷ others) = Some fault
+
+-- the least record length of a format, in bytes
+abbrev pub least_length : ℕ → ℕ
+least_length format = slice_index (20 ∷ 28 ∷ 26 ∷ 34 ∷ 57 ∷ 63 ∷ 30 ∷ 36 ∷ 38 ∷ 59 ∷ 67 ∷ []) format
+
+-- the conditions on the header, in order
+unfoldable pub header_faults : List ℕ → List (Option Fault)
+header_faults b =
+    unless (nat_le 375 (length b)) (few_bytes (length b))
+    ∷ unless (starts_with nat_eq b (codes "LASF")) no_signature
+    ∷ unless (u8_at b 24 == 1 && u8_at b 25 == 4) (other_version (u8_at b 24) (u8_at b 25))
+    ∷ unless (nat_le 375 (header_size b)) (small_header (header_size b))
+    ∷ unless (nat_lt (format_of b) 128) (compressed (format_of b))
+    ∷ unless (nat_le (format_of b) 10) (unknown_format (format_of b))
+    ∷ unless (nat_le (least_length (format_of b)) (record_length b)) (short_record (record_length b) (least_length (format_of b)))
+    ∷ unless (nat_le (header_size b) (points_at b)) (early_points (points_at b))
+    ∷ []
+
+-- where variable length record k begins: the first at a given place, each other where the one before ends.
+-- Its header has 54 bytes, with the length after the header at 20
+unfoldable pub vlr_at : List ℕ → ℕ → ℕ → ℕ
+vlr_at b first zero = first
+vlr_at b first (suc k) = vlr_at b first k + 54 + u16_at b (vlr_at b first k + 20)
+
+-- where extended variable length record k begins. Its header has 60 bytes
+unfoldable pub evlr_at : List ℕ → ℕ → ℕ → ℕ
+evlr_at b first zero = first
+evlr_at b first (suc k) = evlr_at b first k + 60 + u64_at b (evlr_at b first k + 20)
+
+-- whether variable length record k fits before an end and within the file, its header first
+unfoldable pub vlr_fits : List ℕ → ℕ → ℕ → ℕ → Bool
+vlr_fits b first end k = nat_le (vlr_at b first k + 54) (min end (length b)) && nat_le (vlr_at b first (suc k)) (min end (length b))
+
+-- whether extended variable length record k fits after the points and within the file, its header first
+unfoldable pub evlr_fits : List ℕ → ℕ → ℕ → ℕ → Bool
+evlr_fits b first points_end k =
+    nat_le points_end (evlr_at b first k) && nat_le (evlr_at b first k + 60) (length b) && nat_le (evlr_at b first (suc k)) (length b)
+
+-- the first of so many numbers that fails a test, if one does
+abbrev pub first_failing : (ℕ → Bool) → ℕ → Option ℕ
+first_failing passes count = position (λ k. not (passes k)) (range_with_len 0 count)
+
+-- the first variable length record that does not fit, if one does not
+unfoldable pub vlr_fault : List ℕ → ℕ → ℕ → ℕ → Option Fault
+vlr_fault b first end count = option_map (λ k. unfit_vlr k (vlr_at b first k)) (first_failing (vlr_fits b first end) count)
+
+-- the first extended variable length record that does not fit, if one does not
+unfoldable pub evlr_fault : List ℕ → ℕ → ℕ → ℕ → Option Fault
+evlr_fault b first points_end count = option_map (λ k. unfit_evlr k (evlr_at b first k)) (first_failing (evlr_fits b first points_end) count)
+
+-- the first fault of a file in the order of the conditions: the header, the variable length records, the
+-- points, the extended variable length records. None where it is laid out
+unfoldable pub fault : List ℕ → Option Fault
+fault b = first_fault (header_faults b ++
+    vlr_fault b (header_size b) (points_at b) (vlr_count b)
+    ∷ unless (nat_le (points_end b) (length b)) (missing_points (points_end b) (length b))
+    ∷ evlr_fault b (evlrs_at b) (points_end b) (evlr_count b)
+    ∷ [])
+
+-- a file that is laid out as a survey
+unfoldable pub IsLaid : List ℕ → Type 0
+IsLaid b = fault b ≡ None
