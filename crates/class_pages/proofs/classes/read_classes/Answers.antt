@@ -11,7 +11,7 @@ pub loop-i-preserved : goal.loop-i-preserved
 loop-i-preserved c =
     made_more c.loop-i.i _ (λ k. class_of (format_of c.args.survey.now) (class_byte c.args.survey.now k)) c.args.list.now c.loop-i.list c.class_of.result (omega arith)
     (omega (arith, c.requires, c.records-i-end.ensures.count, c.loop-i-test.true))
-    (class_read c.args.survey.now c.loop-i.i _ _ c.class_of.result _ c.header.ensures.format c.class_place.ensures c.point_bytes.ensures.least c.point_bytes.ensures.bytes c.class_of.ensures.class)
+    (class_read c.args.survey.now c.loop-i.i _ _ c.class_of.result _ c.header.ensures.fields.format c.class_place.ensures c.point_bytes.ensures.least c.point_bytes.ensures.bytes c.class_of.ensures.class)
     c.loop-i.invariant
 
 pub returns : goal.returns
