@@ -1,5 +1,5 @@
 -- The length of a picture in bytes.
-use Rattle.std.proofs.Common.{◌≡◌, ℕ, zero, suc, ◌+◌, ◌*◌, List, ◌++◌, length, length-append, Option, Some, None, refl, ◌∙◌, ap, arith}
+use Rattle.std.proofs.Common.{◌≡◌, ℕ, zero, suc, ◌+◌, ◌*◌, ◌/◌, min, List, ◌++◌, length, length-append, Option, Some, None, refl, ◌∙◌, ap, arith}
 use Rattle.std.specs.List.{flat_map, range_with_len}
 use Rattle.view_base.specs.declared.colour.Rgb.{Rgb}
 use Rattle.view_base.specs.declared.colour.Colouring.{Colouring}
@@ -14,8 +14,8 @@ length-rgb_colour rule b i (Some place) = refl
 length-colour : (b cs : List ℕ) (colouring : Colouring) (i : ℕ) → length (colour b cs colouring i) ≡ 3
 unfolding colour
 length-colour b cs Class i = refl
-length-colour b cs Rgb16 i = length-rgb_colour _ b i (rgb_place (format_of b))
-length-colour b cs Rgb8 i = length-rgb_colour _ b i (rgb_place (format_of b))
+length-colour b cs Rgb16 i = length-rgb_colour (λ n. n / 256) b i (rgb_place (format_of b))
+length-colour b cs Rgb8 i = length-rgb_colour (λ n. min n 255) b i (rgb_place (format_of b))
 length-colour b cs Intensity i = refl
 
 length-shown : (b cs : List ℕ) (colouring : Colouring) (o : Option ℕ) → length (shown b cs colouring o) ≡ 3
@@ -29,10 +29,11 @@ length-pixel b cs view x y = length-shown b cs view.colouring (nearest b cs view
 
 -- pieces of one length
 length-flat_map_each : (f : ℕ → List ℕ) (size a n : ℕ) → ((k : ℕ) → length (f k) ≡ size) → length (flat_map f (range_with_len a n)) ≡ n * size
-length-flat_map_each f size a zero each = refl
+length-flat_map_each f size a zero each = let none : 0 ≡ 0 * size = omega arith in none
 length-flat_map_each f size a (suc n) each =
+    let next : size + n * size ≡ suc n * size = grind arith in
     length-append (f a) (flat_map f (range_with_len (a + 1) n)) ∙ ap (λ (k : ℕ). k + length (flat_map f (range_with_len (a + 1) n))) (each a)
-    ∙ ap (λ (k : ℕ). size + k) (length-flat_map_each f size (a + 1) n each)
+    ∙ ap (λ (k : ℕ). size + k) (length-flat_map_each f size (a + 1) n each) ∙ next
 
 -- a picture has its header and three bytes for each pixel
 pub length-picture : (b cs : List ℕ) (view : View) → length (picture b cs view) ≡ length (ppm_header view.camera.width view.camera.height) + 3 * (view.camera.width * view.camera.height)

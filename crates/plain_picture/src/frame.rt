@@ -37,7 +37,6 @@ fn plot_all(words: &mut [u64], survey: &Survey, camera: &Camera)
     requires empty { words.old ≡ replicate (camera.now.width * camera.now.height) (2 ^ 64 - 1) }
     requires deepest { camera.now.far ≤ 2 ^ 32 - 2 }
     ensures words { (cs : List ℕ) → EveryPasses survey.now cs (by_class camera.now) → IsFrame survey.now cs (by_class camera.now) words.new }
-    ensures nearest { (cs : List ℕ) → EveryPasses survey.now cs (by_class camera.now) → NamesNearest survey.now cs (by_class camera.now) words.new }
     ensures few { record_count survey.now ≤ 53687091 }
 {
     for number in 0..survey.records() {

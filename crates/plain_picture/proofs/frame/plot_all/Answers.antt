@@ -2,7 +2,6 @@ use Rattle.std.proofs.Common.{◌≡◌, subst, sym, arith, List, ℕ}
 use Rattle.view_meaning.specs.Survey.{record_count}
 use Rattle.view_meaning.specs.Picture.{by_class}
 use Rattle.view_meaning.proofs.Plotting.{IsFrameBelow, frame_begins, frame_ends}
-use Rattle.view_meaning.proofs.Words.{frame_names}
 use Rattle.plain_picture.proofs.Plain.{plotted_more}
 use Rattle.plain_picture.proofs.frame.plot_all.Goals as goal
 
@@ -19,9 +18,3 @@ pub returns-clause-words : goal.returns-clause-words
 returns-clause-words c = λ cs every.
     let last : c.loop-number.number ≡ record_count c.args.survey.now = omega (arith, c.records-number-end.ensures.count) in
     frame_ends _ _ _ _ (subst (λ (k : ℕ). IsFrameBelow k c.args.survey.now cs (by_class c.args.camera.now) c.loop-number.words) last (c.loop-number.invariant cs every))
-
-pub returns-clause-nearest : goal.returns-clause-nearest
-returns-clause-nearest c = λ cs every.
-    let last : c.loop-number.number ≡ record_count c.args.survey.now = omega (arith, c.records-number-end.ensures.count) in
-    frame_names _ _ (by_class c.args.camera.now) _ (omega (arith, c.requires.deepest)) (omega (arith, c.records-number-end.ensures))
-    (frame_ends _ _ _ _ (subst (λ (k : ℕ). IsFrameBelow k c.args.survey.now cs (by_class c.args.camera.now) c.loop-number.words) last (c.loop-number.invariant cs every)))
