@@ -49,7 +49,7 @@ impl Classes {
     pub fn as_slice(&self) -> &[u8]
         ensures { result.now ≡ self.now }
     {
-        self.list.as_slice()
+        &self.list
     }
 
     /// The class of record `i`.

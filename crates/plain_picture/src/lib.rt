@@ -5,6 +5,8 @@
 mod colours;
 mod drawing;
 mod frame;
+#[cfg(test)]
+mod tests;
 
 pub use drawing::{Scene, picture};
 pub use frame::nearest_words;
