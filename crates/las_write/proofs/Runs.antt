@@ -96,17 +96,6 @@ read_records-copied b bytes start first size count long all begin same whole =
 abbrev pub half_saved : List ℕ → List ℕ → ℕ → ℕ → ℕ → List ℕ
 half_saved b cs first count done = saved_records b cs first done ++ read_records b (first + done) (count - done)
 
-pub half_saved-none : (b cs : List ℕ) (first count : ℕ) → half_saved b cs first count 0 ≡ read_records b first count
-half_saved-none b cs first count =
-    let e : first + 0 ≡ first = omega arith in
-    let f : count - 0 ≡ count = omega arith in
-    ap (λ (k : ℕ). read_records b k (count - 0)) e ∙ ap (read_records b first) f
-
-pub half_saved-all : (b cs : List ℕ) (first count : ℕ) → half_saved b cs first count count ≡ saved_records b cs first count
-half_saved-all b cs first count =
-    let none : (count - count) * record_length b ≡ 0 = let e : count - count ≡ 0 = omega arith in let f : 0 * record_length b ≡ 0 = omega arith in ap (λ (k : ℕ). k * record_length b) e ∙ f in
-    ap (λ (k : ℕ). saved_records b cs first count ++ take k (drop (record_at b (first + count)) b)) none ∙ append-nil (saved_records b cs first count)
-
 -- the two parts, and the record between them
 half_saved-parts : (b cs : List ℕ) (first count done : ℕ) → done < count
     → half_saved b cs first count done ≡ saved_records b cs first done ++ (record_bytes b (first + done) ++ read_records b (first + (done + 1)) (count - (done + 1)))
