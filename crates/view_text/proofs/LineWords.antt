@@ -1,7 +1,9 @@
 -- One word more of a view, and its faults.
 use Rattle.std.proofs.Common.{◌≡◌, ℕ, suc, ◌+◌, ◌<◌, ◌≤◌, true, false, eqb, Some, None, List, [], ◌∷◌, length, get_or, drop, refl, sym, ap, ◌∙◌, inl, inr, arith, length-drop}
-use Rattle.std.proofs.lemmas.Bool.{ne_eqb, cases_eq, and_right}
+use Rattle.std.proofs.lemmas.Bool.{ne_eqb, cases_eq, and_right, le-leb}
 use Rattle.std.proofs.lemmas.List.{drop_more}
+use Rattle.std.specs.Prelude.{is_some}
+use Rattle.view_base.specs.Text.{number}
 use Rattle.view_text.specs.declared.fault.TextFault.TheVariants.{Line}
 use Rattle.view_text.specs.ViewWords.{fits, fitting, words_fault}
 use Rattle.view_text.specs.Reading.{IsRead}
@@ -61,3 +63,8 @@ all_words ws left r none =
 pub fits-further : (word : List ℕ) → fits 22 word ≡ false
 unfolding fits
 fits-further word = refl
+
+-- a word that fits one of the places 1 to 18 is a number
+pub fits-number : (place : ℕ) (word : List ℕ) → 1 ≤ place → place ≤ 18 → fits place word ≡ is_some (number word)
+unfolding fits
+fits-number place word first last = rw (ne_eqb place 0 (omega arith), le-leb place 18 last) refl

@@ -28,4 +28,4 @@ pub reads_all : (ws : List (List ℕ)) (ns : List ℤ) → length ns ≡ 18 → 
 unfolding camera_numbers
 reads_all ws ns size reads =
     ext_get_or (pos 0) ns (camera_numbers ws) (size ∙ sym (length-map-range_with_len (number_at ws) 1 18))
-        (λ k within. reads k (omega (arith, within, size)) ∙ sym (get_or-map-range_with_len (number_at ws) 1 18 k (1 + k) (pos 0) (omega (arith, within, size)) refl))
+    (λ k within. reads k (omega (arith, within, size)) ∙ sym (get_or-map-range_with_len (number_at ws) 1 18 k (1 + k) (pos 0) (omega (arith, within, size)) refl))

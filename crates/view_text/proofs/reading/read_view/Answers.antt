@@ -1,4 +1,4 @@
-use Rattle.std.proofs.Common.{◌≡◌, ◌∙◌, sym, ap, Ok}
+use Rattle.std.proofs.Common.{◌∙◌, sym, ap, Ok}
 use Rattle.view_base.specs.Text.{words}
 use Rattle.view_text.proofs.Views.{view_of-fault, view_of-not_yet, view_of-limit, view_of-view}
 use Rattle.view_text.proofs.reading.read_view.Goals as goal
