@@ -2,7 +2,7 @@ ghost use Rattle.std.specs.Prelude.{◌≡◌, ◌≤◌, IfOk};
 ghost use Rattle.view_base.specs.Text.{words};
 ghost use Rattle.view_text.specs.ViewWords.{view_of};
 ghost use Rattle.edit_ops.specs.EditLine.{edit_of};
-ghost use Rattle.view_lines.specs.Command.{viewed, edited, command_of};
+ghost use Rattle.view_lines.specs.Command.{viewed, edited, saved, command_of, HasRoom, IsByClass};
 
 use crate::command::Command;
 use crate::refusal::Refusal;
@@ -12,7 +12,8 @@ use view_text::{TextFault, read_view};
 
 /// The command of the words of a view.
 fn view_command(text: &[u8]) -> Result<Command, Refusal>
-    ensures { result ≡ viewed (view_of (words text.now)) }
+    ensures command { result ≡ viewed (view_of (words text.now)) }
+    ensures by_class { IfOk result IsByClass }
 {
     match read_view(text) {
         Ok(view) => Ok(Command::View(view)),
@@ -24,12 +25,23 @@ fn view_command(text: &[u8]) -> Result<Command, Refusal>
 /// The command of an edit line, for a point data record format.
 fn edit_command(line: &[u8], format: u8) -> Result<Command, Refusal>
     requires { format ≤ 10 }
-    ensures { result ≡ edited (edit_of line.now format) }
+    ensures command { result ≡ edited (edit_of line.now format) }
+    ensures room { IfOk result (HasRoom format) }
 {
     match read_edit(line, format) {
         Ok(edit) => Ok(Command::Edit(edit)),
         Err(EditFault::Line { .. }) => Err(Refusal::Line),
         Err(EditFault::ClassRange { .. }) => Err(Refusal::ClassRange),
+    }
+}
+
+/// The command of a line that goes on with this text after the word `save`.
+fn save_command(rest: &[u8]) -> Result<Command, Refusal>
+    ensures { result ≡ saved (words rest.now) }
+{
+    match next_word(rest, 0) {
+        Some(_) => Err(Refusal::Line),
+        None => Ok(Command::Save),
     }
 }
 
@@ -41,6 +53,8 @@ fn edit_command(line: &[u8], format: u8) -> Result<Command, Refusal>
 pub fn read_command(line: &[u8], format: u8) -> Result<Command, Refusal>
     requires { format ≤ 10 }
     ensures command { result ≡ command_of line.now format }
+    ensures room { IfOk result (HasRoom format) }
+    ensures by_class { IfOk result IsByClass }
 {
     let Some((start, end)) = next_word(line, 0) else {
         return Err(Refusal::Line);
@@ -52,8 +66,8 @@ pub fn read_command(line: &[u8], format: u8) -> Result<Command, Refusal>
     if word == b"edit".as_slice() {
         return edit_command(line, format);
     }
-    if word == b"save".as_slice() && next_word(line, end).is_none() {
-        return Ok(Command::Save);
+    if word == b"save".as_slice() {
+        return save_command(&line[end..]);
     }
     Err(Refusal::Line)
 }
