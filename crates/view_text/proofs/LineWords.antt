@@ -42,13 +42,6 @@ read_more ws left others word k r next here =
       within = omega arith;
     }
 
--- the word at a place
-pub word_is : (ws left others : List (List ℕ)) (word : List ℕ) (k : ℕ) → IsRead ws left k → left ≡ word ∷ others → get_or ws k [] ≡ word
-word_is ws left others word k r next =
-    let longer : length (drop k ws) ≡ suc (length others) = ap length (sym r.left_are ∙ next) in
-    let cut : word ∷ others ≡ get_or ws k [] ∷ drop (k + 1) ws = sym next ∙ r.left_are ∙ drop_more ws k [] (omega (arith, longer, length-drop k ws)) in
-    cc
-
 -- twenty-two words that fit, and no other
 pub all_words : (ws left : List (List ℕ)) → IsRead ws left 22 → left ≡ [] → words_fault ws ≡ None
 unfolding words_fault
