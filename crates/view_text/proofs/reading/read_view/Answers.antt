@@ -1,4 +1,4 @@
-use Rattle.std.proofs.Common.{◌≡◌, ◌∙◌, sym}
+use Rattle.std.proofs.Common.{◌∙◌, sym}
 use Rattle.view_base.specs.Text.{words}
 use Rattle.view_text.proofs.Views.{view_of-fault, view_of-fitting}
 use Rattle.view_text.proofs.reading.read_view.Goals as goal
