@@ -72,3 +72,39 @@ pub fn read_view_words(words: &[String]) -> Result<ViewSpec, TextFault>
         None => view_by(are_built(words), &numbers_of(words)),
     }
 }
+
+#[cfg(test)]
+mod tests {
+    use super::*;
+    use std::alloc::{AllocError, Global};
+    use std::test::Fail;
+
+    fn separate(alloc: Global, line: &str) -> Result<Vec<String>, AllocError> {
+        let mut words = Vec::new(alloc);
+        for word in line.split(',') {
+            words.push(word.to_string(alloc)?)?;
+        }
+        Ok(words)
+    }
+
+    #[test]
+    fn separate_words_are_a_view_or_name_the_first_that_does_not_fit(
+        rt: HostRuntime,
+    ) -> Result<(), Fail> {
+        let start = "ortho,3,1,0,0,0,1,0,0,0,1,0,0,0,1,1,1,0,10,class";
+        for (end, at) in [
+            (",all", 21),
+            (",,show", 20),
+            (",all,show ", 21),
+            (",all,show,", 22),
+        ] {
+            let line = format!(in rt.alloc(); "{start}{end}")?;
+            let words = separate(rt.alloc(), line.as_str())?;
+            assert_eq!(rt; read_view_words(&words).err(), Some(TextFault::Line { at }));
+        }
+        let line = format!(in rt.alloc(); "{start},all,show")?;
+        let words = separate(rt.alloc(), line.as_str())?;
+        assert_eq!(rt; read_view_words(&words)?.camera.width(), 3);
+        Ok(())
+    }
+}
