@@ -32,14 +32,14 @@ range_none test a (suc n) none k from below =
       | inr other ↦ range_none test (a + 1) n (two_finds a (find test (range_with_len (a + 1) n)) (test a) none).1 k (omega arith) (omega arith)
     ]
 
--- what is found of any list passes
+found_first : {X : Type 0} (test : X → Bool) (y x : X) (o : Option X) (b : Bool) → test y ≡ b → cond b (Some y) o ≡ Some x → (o ≡ Some x → test x ≡ true) → test x ≡ true
+found_first test y x o true is found later = let e : y ≡ x = cc found in ap test (sym e) ∙ is
+found_first test y x o false is found later = later found
+
+-- what is found of a list passes
 pub find_passes : {X : Type 0} (test : X → Bool) (xs : List X) (x : X) → find test xs ≡ Some x → test x ≡ true
 find_passes test [] x found = absurd (cc found)
-find_passes {X} test (y ∷ ys) x found = either (test y) refl found
-  where
-    either : (b : Bool) → test y ≡ b → cond b (Some y) (find test ys) ≡ Some x → test x ≡ true
-    either true is found = let e : y ≡ x = cc found in ap test (sym e) ∙ is
-    either false is found = find_passes test ys x found
+find_passes test (y ∷ ys) x found = found_first test y x (find test ys) (test y) refl found (λ later. find_passes test ys x later)
 
 -- where no place passes
 pub any-range_none : (test : ℕ → Bool) (a n : ℕ) → ((k : ℕ) → a ≤ k → k < a + n → test k ≡ false) → list_any test (range_with_len a n) ≡ false

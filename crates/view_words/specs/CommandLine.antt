@@ -9,9 +9,9 @@ use Rattle.std.specs.Option.{option_or}
 use Rattle.std.specs.Str.{bytes_eq}
 use Rattle.view_base.specs.Text.{number}
 use Rattle.view_text.specs.ViewWords.{fits, word_at}
-use Rattle.view_words.specs.declared.row.Row as row
+use Rattle.view_words.specs.declared.row.Row.{Row}
 use Rattle.view_words.specs.declared.row.Row.TheVariants.{Draw, Info, Trial, Serve}
-use Rattle.view_words.specs.declared.kind.WordKind as kind
+use Rattle.view_words.specs.declared.kind.WordKind.{WordKind}
 use Rattle.view_words.specs.declared.kind.WordKind.TheVariants.{Command, ReadName, WrittenName, Workers, Start, Records, ViewWord, NoWord}
 
 -- the texts of the words
@@ -19,22 +19,22 @@ abbrev pub texts : {Y : Type 0} → List (String Y) → List (List ℕ)
 texts words = map string_bytes words
 
 -- the word with which a row begins
-abbrev pub command : row.Row → List ℕ
+abbrev pub command : Row → List ℕ
 command Draw = codes "draw"
 command Info = codes "info"
 command Trial = codes "trial"
 command Serve = codes "serve"
 
 -- all rows
-abbrev pub all_rows : List row.Row
+abbrev pub all_rows : List Row
 all_rows = Draw ∷ Info ∷ Trial ∷ Serve ∷ []
 
 -- the row of these with whose command the words begin, or none
-abbrev pub row_in : List row.Row → List (List ℕ) → Option row.Row
+abbrev pub row_in : List Row → List (List ℕ) → Option Row
 row_in rows ws = find (λ row. bytes_eq (word_at ws 0) (command row)) rows
 
 -- what a row has at a place, from 0
-unfoldable pub kind_at : row.Row → ℕ → kind.WordKind
+unfoldable pub kind_at : Row → ℕ → WordKind
 kind_at Draw k =
     if k == 0 then Command else if k == 1 then ReadName else if k == 2 then WrittenName else if k == 3 then Workers
     else if nat_le k 25 then ViewWord (k - 4) else NoWord
@@ -58,7 +58,7 @@ abbrev pub number_within : ℕ → ℕ → List ℕ → Option ℕ
 number_within least greatest word = within least greatest (number word)
 
 -- whether an earlier name bars the same name, by what the two are for: `-` may be read once and written once
-abbrev pub bars : kind.WordKind → kind.WordKind → List ℕ → Bool
+abbrev pub bars : WordKind → WordKind → List ℕ → Bool
 bars ReadName ReadName name = true
 bars WrittenName WrittenName name = true
 bars ReadName WrittenName name = not (bytes_eq name (codes "-"))
@@ -66,11 +66,11 @@ bars WrittenName ReadName name = not (bytes_eq name (codes "-"))
 bars _ _ name = false
 
 -- whether an earlier name of the line bars the one at a place
-unfoldable pub is_taken : row.Row → List (List ℕ) → ℕ → Bool
+unfoldable pub is_taken : Row → List (List ℕ) → ℕ → Bool
 is_taken row ws k = list_any (λ j. bytes_eq (word_at ws j) (word_at ws k) && bars (kind_at row j) (kind_at row k) (word_at ws k)) (range_with_len 0 k)
 
 -- whether the word at a place is refused where this is what its row has there
-abbrev pub is_refused_as : kind.WordKind → row.Row → List (List ℕ) → ℕ → Bool
+abbrev pub is_refused_as : WordKind → Row → List (List ℕ) → ℕ → Bool
 is_refused_as Command row ws k = false
 is_refused_as ReadName row ws k = bytes_eq (word_at ws k) [] || is_taken row ws k
 is_refused_as WrittenName row ws k = bytes_eq (word_at ws k) [] || is_taken row ws k
@@ -81,44 +81,44 @@ is_refused_as (ViewWord place) row ws k = not (fits place (word_at ws k))
 is_refused_as NoWord row ws k = true
 
 -- whether the word at a place is refused in a line that begins with this row's command
-unfoldable pub is_refused : row.Row → List (List ℕ) → ℕ → Bool
+unfoldable pub is_refused : Row → List (List ℕ) → ℕ → Bool
 is_refused row ws k = is_refused_as (kind_at row k) row ws k
 
 -- the place of the first refused word of a row, or none
-unfoldable pub first_refused : row.Row → List (List ℕ) → Option ℕ
+unfoldable pub first_refused : Row → List (List ℕ) → Option ℕ
 first_refused row ws = find (is_refused row ws) (range_with_len 0 (length ws))
 
 -- whether so many words are all that a row needs: `serve` needs a pair, and each pair whole
-abbrev pub is_whole : row.Row → ℕ → Bool
+abbrev pub is_whole : Row → ℕ → Bool
 is_whole Draw n = n == 26
 is_whole Info n = n == 3
 is_whole Trial n = n == 5
 is_whole Serve n = nat_le 6 n && n % 2 == 0
 
 -- the number of words where a row needs more of them, or none
-abbrev pub missing : row.Row → List (List ℕ) → Option ℕ
+abbrev pub missing : Row → List (List ℕ) → Option ℕ
 missing row ws = if is_whole row (length ws) then None else Some (length ws)
 
 -- the first refused word of a row, or the number of words where more are needed, or none
-unfoldable pub badword_in : row.Row → List (List ℕ) → Option ℕ
+unfoldable pub badword_in : Row → List (List ℕ) → Option ℕ
 badword_in row ws = option_or (first_refused row ws) (missing row ws)
 
 -- the same of the row that the words begin, and the first word where they begin none
-abbrev pub badword_of : Option row.Row → List (List ℕ) → Option ℕ
+abbrev pub badword_of : Option Row → List (List ℕ) → Option ℕ
 badword_of None ws = Some 0
 badword_of (Some row) ws = badword_in row ws
 
 -- the place of the first refused word of a command line by the rows that are taken, or the number of
 -- words where more are needed, or none where the words fit
-unfoldable pub badword : List row.Row → List (List ℕ) → Option ℕ
+unfoldable pub badword : List Row → List (List ℕ) → Option ℕ
 badword rows ws = badword_of (row_in rows ws) ws
 
 -- the words of a row that fit
-abbrev pub IsLine : row.Row → List (List ℕ) → Type 0
+abbrev pub IsLine : Row → List (List ℕ) → Type 0
 IsLine row ws = badword (row ∷ []) ws ≡ None
 
 -- the place of the number of workers, in the rows that have one
-abbrev pub workers_place : row.Row → ℕ
+abbrev pub workers_place : Row → ℕ
 workers_place Serve = 2
 workers_place _ = 3
 
