@@ -1,3 +1,6 @@
 pub mod Examples
 pub mod Places
 pub mod Refusals
+pub mod Lines
+pub mod Names
+pub mod Numbers

@@ -65,15 +65,24 @@ bars ReadName WrittenName name = not (bytes_eq name (codes "-"))
 bars WrittenName ReadName name = not (bytes_eq name (codes "-"))
 bars _ _ name = false
 
+-- whether the name at a place j bars the one at a later place k: it is the same name, and the two are not one `-` that
+-- is read and one that is written
+abbrev pub barred : Row → List (List ℕ) → ℕ → ℕ → Bool
+barred row ws k j = bytes_eq (word_at ws j) (word_at ws k) && bars (kind_at row j) (kind_at row k) (word_at ws k)
+
 -- whether an earlier name of the line bars the one at a place
 unfoldable pub is_taken : Row → List (List ℕ) → ℕ → Bool
-is_taken row ws k = list_any (λ j. bytes_eq (word_at ws j) (word_at ws k) && bars (kind_at row j) (kind_at row k) (word_at ws k)) (range_with_len 0 k)
+is_taken row ws k = list_any (barred row ws k) (range_with_len 0 k)
+
+-- whether the name at a place is refused: it is empty, or an earlier name bars it
+abbrev pub is_refused_name : Row → List (List ℕ) → ℕ → Bool
+is_refused_name row ws k = bytes_eq (word_at ws k) [] || is_taken row ws k
 
 -- whether the word at a place is refused where this is what its row has there
 abbrev pub is_refused_as : WordKind → Row → List (List ℕ) → ℕ → Bool
 is_refused_as Command row ws k = false
-is_refused_as ReadName row ws k = bytes_eq (word_at ws k) [] || is_taken row ws k
-is_refused_as WrittenName row ws k = bytes_eq (word_at ws k) [] || is_taken row ws k
+is_refused_as ReadName row ws k = is_refused_name row ws k
+is_refused_as WrittenName row ws k = is_refused_name row ws k
 is_refused_as Workers row ws k = is_none (number_within 1 64 (word_at ws k))
 is_refused_as Start row ws k = is_none (number_within 0 (2 ^ 64 - 1) (word_at ws k))
 is_refused_as Records row ws k = is_none (number_within 0 (2 ^ 23) (word_at ws k))

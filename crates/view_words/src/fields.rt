@@ -25,11 +25,17 @@ pub fn workers(row: Row, words: &[String]) -> u32
     ensures some { 1 ≤ result }
     ensures few { result ≤ 64 }
 {
-    let place = match row {
+    number_within(1, MAX_WORKERS, text_at(words, workers_place(row))).unwrap() as u32
+}
+
+/// The place of the number of workers.
+fn workers_place(row: Row) -> usize
+    ensures { result ≡ workers_place row }
+{
+    match row {
         Row::Serve => 2,
         _ => 3,
-    };
-    number_within(1, MAX_WORKERS, text_at(words, place)).unwrap() as u32
+    }
 }
 
 /// The start of a `trial`.

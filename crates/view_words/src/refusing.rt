@@ -1,7 +1,5 @@
-ghost use Rattle.std.specs.Prelude.{◌≡◌, ◌<◌, ℕ, length, List, pos, IfSome, ◌≤◌, is_none};
-ghost use Rattle.std.specs.List.{find, range_with_len, list_any};
-ghost use Rattle.view_text.specs.ViewWords.{word_at};
-ghost use Rattle.view_words.specs.CommandLine.{texts, number_within, bars, is_taken, is_refused, is_whole, first_refused, badword_in};
+ghost use Rattle.std.specs.Prelude.{◌≡◌, ◌<◌, length};
+ghost use Rattle.view_words.specs.CommandLine.{texts, number_within, bars, barred, is_taken, is_refused_name, is_refused, is_whole, first_refused, badword_in};
 
 use crate::fields::text_at;
 use crate::kind::{WordKind, kind_at};
@@ -45,19 +43,35 @@ fn bars(earlier: WordKind, later: WordKind, name: &str) -> bool
     }
 }
 
-/// Whether an earlier name of the line bars the word at a place.
+/// Whether the name at one place bars the name at a later one, `at`.
+fn is_barred(row: Row, words: &[String], at: usize, earlier: usize) -> bool
+    requires at { at < length words.now }
+    requires earlier { earlier < length words.now }
+    ensures { result ≡ barred row (texts words.now) at earlier }
+{
+    let name = text_at(words, at);
+    text_at(words, earlier) == name && bars(kind_at(row, earlier), kind_at(row, at), name)
+}
+
+/// Whether an earlier name of the line bars the name at a place.
 fn is_taken(row: Row, words: &[String], at: usize) -> bool
     requires { at < length words.now }
     ensures { result ≡ is_taken row (texts words.now) at }
 {
-    let name = text_at(words, at);
-    let kind = kind_at(row, at);
     for earlier in 0..at {
-        if text_at(words, earlier) == name && bars(kind_at(row, earlier), kind, name) {
+        if is_barred(row, words, at, earlier) {
             return true;
         }
     }
     false
+}
+
+/// Whether the name at a place is refused.
+fn is_refused_name(row: Row, words: &[String], at: usize) -> bool
+    requires { at < length words.now }
+    ensures { result ≡ is_refused_name row (texts words.now) at }
+{
+    text_at(words, at).is_empty() || is_taken(row, words, at)
 }
 
 /// Whether the word at a place is refused.
@@ -68,9 +82,8 @@ fn is_refused(row: Row, words: &[String], at: usize) -> bool
     let word = text_at(words, at);
     match kind_at(row, at) {
         WordKind::Command => false,
-        WordKind::ReadName | WordKind::WrittenName => {
-            word.is_empty() || is_taken(row, words, at)
-        }
+        WordKind::ReadName => is_refused_name(row, words, at),
+        WordKind::WrittenName => is_refused_name(row, words, at),
         WordKind::Workers => number_within(1, MAX_WORKERS, word).is_none(),
         WordKind::Start => number_within(0, u64::MAX, word).is_none(),
         WordKind::Records => number_within(0, MAX_RECORDS, word).is_none(),
@@ -81,7 +94,7 @@ fn is_refused(row: Row, words: &[String], at: usize) -> bool
 
 /// The first word that a row refuses, by its place from 0.
 fn first_refused(row: Row, words: &[String]) -> Option<u32>
-    ensures first { result ≡ first_refused row (texts words.now) }
+    ensures { result ≡ first_refused row (texts words.now) }
 {
     for at in 0..words.len() {
         if is_refused(row, words, at) {
