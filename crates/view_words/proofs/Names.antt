@@ -70,9 +70,9 @@ read_once row ws j k line in_j in_k is_j is_k same =
     elim (cases_lt j k) [
       | inl before ↦ absurd (read_not_again row ws j k line before in_k is_j is_k same)
       | inr later ↦ elim (cases_eq j k) [
-          | inl one ↦ one
-          | inr two ↦ absurd (read_not_again row ws k j line (omega arith) in_j is_k is_j (sym same))
-        ]
+        | inl one ↦ one
+        | inr two ↦ absurd (read_not_again row ws k j line (omega arith) in_j is_k is_j (sym same))
+      ]
     ]
 
 -- two written names that are the same stand at one place
@@ -81,9 +81,9 @@ written_once row ws j k line in_j in_k is_j is_k same =
     elim (cases_lt j k) [
       | inl before ↦ absurd (written_not_again row ws j k line before in_k is_j is_k same)
       | inr later ↦ elim (cases_eq j k) [
-          | inl one ↦ one
-          | inr two ↦ absurd (written_not_again row ws k j line (omega arith) in_j is_k is_j (sym same))
-        ]
+        | inl one ↦ one
+        | inr two ↦ absurd (written_not_again row ws k j line (omega arith) in_j is_k is_j (sym same))
+      ]
     ]
 
 dash : (word : List ℕ) → not (bytes_eq word (codes "-")) ≡ false → word ≡ codes "-"
@@ -99,9 +99,9 @@ read_and_written row ws j k line in_j in_k is_j is_k same =
     elim (cases_lt j k) [
       | inl before ↦ same ∙ dash (word_at ws k) (not_barred row ws k j ReadName WrittenName (written_stands row ws k line in_k is_k).1 before same is_j is_k)
       | inr later ↦ elim (cases_eq j k) [
-          | inl one ↦ absurd (cc (sym is_j ∙ ap (kind_at row) one ∙ is_k))
-          | inr two ↦ dash (word_at ws j) (not_barred row ws j k WrittenName ReadName (read_stands row ws j line in_j is_j).1 (omega arith) (sym same) is_k is_j)
-        ]
+        | inl one ↦ absurd (cc (sym is_j ∙ ap (kind_at row) one ∙ is_k))
+        | inr two ↦ dash (word_at ws j) (not_barred row ws j k WrittenName ReadName (read_stands row ws j line in_j is_j).1 (omega arith) (sym same) is_k is_j)
+      ]
     ]
 
 -- where the names of each row stand

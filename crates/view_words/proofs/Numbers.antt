@@ -37,7 +37,7 @@ pub camera_numbers-read : (ws : List (List ℕ)) (ns : List ℤ) → length ns �
 unfolding camera_numbers
 camera_numbers-read ws ns size reads =
     ext_get_or (pos 0) ns (camera_numbers (drop 4 ws)) (size ∙ sym (length-map-range_with_len (λ k. unwrap_or (number (word_at (drop 4 ws) k)) (pos 0)) 1 18))
-      (λ k within. sym (get_or-map-range_with_len (λ k. unwrap_or (number (word_at (drop 4 ws) k)) (pos 0)) 1 18 k (1 + k) (pos 0) (omega (arith, within, size)) refl
-      ∙ ap (λ (word : List ℕ). unwrap_or (number word) (pos 0)) (get_or-drop 4 ws (1 + k) [])
-      ∙ ap (λ (j : ℕ). unwrap_or (number (word_at ws j)) (pos 0)) (omega arith)
-      ∙ ap (λ (o : Option ℤ). unwrap_or o (pos 0)) (reads k (omega (arith, within, size)))))
+    (λ k within. sym (get_or-map-range_with_len (λ k. unwrap_or (number (word_at (drop 4 ws) k)) (pos 0)) 1 18 k (1 + k) (pos 0) (omega (arith, within, size)) refl
+    ∙ ap (λ (word : List ℕ). unwrap_or (number word) (pos 0)) (get_or-drop 4 ws (1 + k) [])
+    ∙ ap (λ (j : ℕ). unwrap_or (number (word_at ws j)) (pos 0)) (omega arith)
+    ∙ ap (λ (o : Option ℤ). unwrap_or o (pos 0)) (reads k (omega (arith, within, size)))))

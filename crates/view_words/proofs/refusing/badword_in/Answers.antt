@@ -1,5 +1,5 @@
-use Rattle.std.proofs.Common.{◌≡◌, ◌∙◌, ℕ, Option, Some, None, length, sym, ap, arith}
-use Rattle.view_words.specs.CommandLine.{texts, first_refused, badword_in}
+use Rattle.std.proofs.Common.{◌≡◌, ◌∙◌, ℕ, true, false, Option, Some, None, length, sym, ap, arith}
+use Rattle.view_words.specs.CommandLine.{texts, first_refused, is_whole}
 use Rattle.view_words.proofs.Lines.{length-texts}
 use Rattle.view_words.proofs.Refusals.{unrefused, unrefused_few, badword_in-refused, badword_in-missing, badword_in-none}
 use Rattle.view_words.proofs.refusing.badword_in.Goals as goal
@@ -14,8 +14,10 @@ overflow_cast-result c =
 
 pub returns-then-is_whole : goal.returns-then-is_whole
 returns-then-is_whole c =
-    sym (badword_in-none c.args.row (texts c.args.words.now) (sym c.in_default.ensures) ?)
+    let whole : is_whole c.args.row (length (texts c.args.words.now)) ≡ true = ap (is_whole c.args.row) (length-texts c.args.words.now) ∙ sym c.is_whole.ensures ∙ c.if-is_whole.true in
+    sym (badword_in-none c.args.row (texts c.args.words.now) (sym c.in_default.ensures) whole)
 
 pub returns-else-is_whole : goal.returns-else-is_whole
 returns-else-is_whole c =
-    ap (λ (n : ℕ). Some n) (sym (length-texts c.args.words.now)) ∙ sym (badword_in-missing c.args.row (texts c.args.words.now) (sym c.in_default.ensures) ?)
+    let part : is_whole c.args.row (length (texts c.args.words.now)) ≡ false = ap (is_whole c.args.row) (length-texts c.args.words.now) ∙ sym c.is_whole.ensures ∙ c.if-is_whole.false in
+    ap (λ (n : ℕ). Some n) (sym (length-texts c.args.words.now)) ∙ sym (badword_in-missing c.args.row (texts c.args.words.now) (sym c.in_default.ensures) part)
