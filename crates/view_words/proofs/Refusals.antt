@@ -1,6 +1,7 @@
 -- What the refusal of a word, and of a line, says.
 use Rattle.std.proofs.Common.{◌≡◌, ℕ, ◌+◌, ◌<◌, ◌≤◌, List, [], ◌∷◌, Option, Some, None, Bool, true, false, cond, length, inl, inr, refl, sym, ◌∙◌, ap, subst, arith}
 use Rattle.std.proofs.lemmas.Bool.{cases_lt}
+use Rattle.std.proofs.lemmas.Slice.Eq.{bytes_eq-Decides}
 use Rattle.std.specs.Option.{option_or}
 use Rattle.std.specs.List.{find}
 use Rattle.std.specs.Str.{bytes_eq}
@@ -103,3 +104,17 @@ own row ws false fits = absurd (cc fits)
 pub line_begins : (row : Row) (ws : List (List ℕ)) → IsLine row ws → (bytes_eq (word_at ws 0) (command row) ≡ true) × (badword_in row ws ≡ None)
 unfolding badword
 line_begins row ws fits = own row ws (bytes_eq (word_at ws 0) (command row)) fits
+
+-- the row of a line is the one that its words begin
+pub row_in-line : (row : Row) (ws : List (List ℕ)) → IsLine row ws → row_in all_rows ws ≡ Some row
+row_in-line row ws line = only row (word_at ws 0) ((bytes_eq-Decides (word_at ws 0) (command row)).0 (line_begins row ws line).0)
+  where
+    only : (row : Row) (word : List ℕ) → word ≡ command row → find (λ (row : Row). bytes_eq word (command row)) all_rows ≡ Some row
+    only Draw word is = rw is refl
+    only Info word is = rw is refl
+    only Trial word is = rw is refl
+    only Serve word is = rw is refl
+
+-- a line of one row fits where all rows are taken
+pub badword-line : (row : Row) (ws : List (List ℕ)) → IsLine row ws → badword all_rows ws ≡ None
+badword-line row ws line = sym (badword-row all_rows row ws (row_in-line row ws line)) ∙ line
