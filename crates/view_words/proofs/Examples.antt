@@ -5,7 +5,7 @@ use Rattle.std.specs.List.{range_with_len}
 use Rattle.view_base.specs.Text.{number, digits}
 use Rattle.class_bits.specs.ClassList.{item_range, class_list}
 use Rattle.view_text.specs.ViewWords.{fits}
-use Rattle.view_words.specs.declared.row.Row.TheVariants.{Draw, Info, Trial, Serve}
+use Rattle.view_words.specs.declared.row.Row.TheVariants.{Draw}
 use Rattle.view_words.specs.CommandLine.{all_rows, kind_at, is_taken, is_refused, first_refused, badword_in, badword}
 
 no_words : badword all_rows [] ≡ Some 0

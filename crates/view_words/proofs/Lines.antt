@@ -1,15 +1,15 @@
 -- What is known of the words of a row that fit: how many they are, and what its numbers and view words are.
-use Rattle.std.proofs.Common.{◌≡◌, ◌≢◌, ℕ, zero, suc, ◌+◌, ◌*◌, ◌/◌, ◌-◌, ◌<◌, ◌≤◌, List, [], ◌∷◌, Option, Some, None, IsSome, ℤ, pos, negsuc, Bool, true, false, length, get_or, drop, inl, inr, refl, sym, ◌∙◌, ap, subst, arith, length-drop}
+use Rattle.std.proofs.Common.{◌≡◌, ◌≢◌, ℕ, suc, ◌+◌, ◌*◌, ◌/◌, ◌-◌, ◌<◌, ◌≤◌, List, [], ◌∷◌, Option, Some, None, IsSome, ℤ, pos, negsuc, Bool, true, false, length, drop, refl, sym, ◌∙◌, ap, subst, arith, length-drop}
 use Rattle.std.proofs.lemmas.Bool.Decides.{nat_tests}
 use Rattle.std.proofs.lemmas.List.{get_or-drop, length-map}
-use Rattle.std.specs.Prelude.{String, string_bytes, ◌==◌, ◌%◌, not, nat_le, ◌&&◌, ◌^◌, is_some, is_none, if◌then◌else◌, IsTrue}
+use Rattle.std.specs.Prelude.{String, string_bytes, ◌==◌, ◌%◌, not, nat_le, ◌&&◌, ◌^◌, is_none, if◌then◌else◌}
 use Rattle.view_base.specs.Text.{number}
 use Rattle.view_text.specs.ViewWords.{fits, fitting, words_fault, word_at}
 use Rattle.view_words.specs.declared.row.Row.{Row}
 use Rattle.view_words.specs.declared.row.Row.TheVariants.{Draw, Info, Trial, Serve}
 use Rattle.view_words.specs.declared.kind.WordKind.{WordKind}
-use Rattle.view_words.specs.declared.kind.WordKind.TheVariants.{Command, ReadName, WrittenName, Workers, Start, Records, ViewWord, NoWord}
-use Rattle.view_words.specs.CommandLine.{texts, kind_at, within, number_within, is_refused_as, is_refused, is_whole, badword_in, IsLine, workers_place, view_words}
+use Rattle.view_words.specs.declared.kind.WordKind.TheVariants.{Workers, Start, Records, ViewWord}
+use Rattle.view_words.specs.CommandLine.{texts, kind_at, within, number_within, is_refused_as, is_refused, is_whole, least_words, IsLine, workers_place, view_words}
 use Rattle.view_words.proofs.Refusals.{is_refused-kind, unrefused, unrefused_few, none_refused, line_begins}
 
 pub length-texts : {Y : Type 0} (words : List (String Y)) → length (texts words) ≡ length words
@@ -55,6 +55,13 @@ pairs n whole few =
 
 pub length-serve : (ws : List (List ℕ)) → IsLine Serve ws → (length ws ≡ 4 + 2 * pairs_of (length ws)) × (1 ≤ pairs_of (length ws)) × (pairs_of (length ws) ≤ 16)
 length-serve ws line = pairs (length ws) (line_whole Serve ws line) (line_few Serve ws line)
+
+-- a line has at least the fewest words of its row
+pub least_words-line : (row : Row) (ws : List (List ℕ)) → IsLine row ws → least_words row ≤ length ws
+least_words-line Draw ws line = omega (arith, length-draw ws line)
+least_words-line Info ws line = omega (arith, length-info ws line)
+least_words-line Trial ws line = omega (arith, length-trial ws line)
+least_words-line Serve ws line = let pairs = length-serve ws line in omega (arith, pairs.0, pairs.1)
 
 -- the place of the number of workers
 pub kind_at-workers : (row : Row) → row ≢ Info → kind_at row (workers_place row) ≡ Workers

@@ -1,17 +1,16 @@
 -- The names of a line that fits: none is empty, and two that are the same are a `-` that is read and one that is written.
-use Rattle.std.proofs.Common.{◌≡◌, ◌≢◌, ℕ, ◌+◌, ◌*◌, ◌<◌, ◌≤◌, List, [], ◌∷◌, Bool, true, false, length, inl, inr, refl, sym, ◌∙◌, ap, subst, arith}
+use Rattle.std.proofs.Common.{◌≡◌, ◌≢◌, ℕ, ◌+◌, ◌*◌, ◌<◌, List, [], Bool, true, false, length, inl, inr, refl, sym, ◌∙◌, ap, arith}
 use Rattle.std.proofs.lemmas.Bool.{cases_lt, cases_eq}
 use Rattle.std.proofs.lemmas.Bool.Decides.{nat_tests}
 use Rattle.std.proofs.lemmas.Slice.Eq.{bytes_eq-Decides}
-use Rattle.std.specs.Prelude.{not, codes, ◌&&◌, ◌||◌, ◌==◌, ◌%◌}
-use Rattle.std.specs.List.{list_any, range_with_len}
+use Rattle.std.specs.Prelude.{not, codes, ◌&&◌, ◌||◌}
 use Rattle.std.specs.Str.{bytes_eq}
 use Rattle.view_text.specs.ViewWords.{word_at}
 use Rattle.view_words.specs.declared.row.Row.{Row}
 use Rattle.view_words.specs.declared.row.Row.TheVariants.{Draw, Info, Trial, Serve}
 use Rattle.view_words.specs.declared.kind.WordKind.{WordKind}
 use Rattle.view_words.specs.declared.kind.WordKind.TheVariants.{ReadName, WrittenName}
-use Rattle.view_words.specs.CommandLine.{kind_at, bars, barred, is_taken, is_refused_as, IsLine}
+use Rattle.view_words.specs.CommandLine.{kind_at, bars, barred, is_taken, IsLine}
 use Rattle.view_words.proofs.Places.{any-range_none, any-range_some, none_passes}
 use Rattle.view_words.proofs.Lines.{line_at}
 

@@ -1,5 +1,5 @@
 -- What the refusal of a word, and of a line, says.
-use Rattle.std.proofs.Common.{◌≡◌, ℕ, ◌+◌, ◌<◌, ◌≤◌, List, [], ◌∷◌, Option, Some, None, Bool, true, false, cond, length, inl, inr, refl, sym, ◌∙◌, ap, subst, arith}
+use Rattle.std.proofs.Common.{◌≡◌, ℕ, ◌<◌, ◌≤◌, List, [], ◌∷◌, Option, Some, None, Bool, true, false, cond, length, inl, inr, refl, sym, ◌∙◌, ap, arith}
 use Rattle.std.proofs.lemmas.Bool.{cases_lt}
 use Rattle.std.proofs.lemmas.Slice.Eq.{bytes_eq-Decides}
 use Rattle.std.specs.Option.{option_or}
@@ -10,7 +10,7 @@ use Rattle.view_text.specs.ViewWords.{word_at}
 use Rattle.view_words.specs.declared.row.Row.{Row}
 use Rattle.view_words.specs.declared.row.Row.TheVariants.{Draw, Info, Trial, Serve}
 use Rattle.view_words.specs.declared.kind.WordKind.{WordKind}
-use Rattle.view_words.specs.CommandLine.{command, all_rows, row_in, kind_at, is_refused_as, is_refused, first_refused, is_whole, missing, badword_in, badword_of, badword, IsLine}
+use Rattle.view_words.specs.CommandLine.{command, all_rows, row_in, kind_at, is_refused_as, is_refused, first_refused, is_whole, badword_in, badword_of, badword, IsLine}
 use Rattle.view_words.proofs.Places.{find-range_none, find-range_first, range_none, find_passes}
 
 -- a word of a known kind

@@ -1,5 +1,5 @@
 -- The names of a `draw`, an `info`, a `trial` and a `serve` that fit.
-use Rattle.std.proofs.Common.{◌≡◌, ◌≢◌, ℕ, ◌+◌, ◌*◌, ◌<◌, ◌≤◌, List, [], length, sym, ap, arith}
+use Rattle.std.proofs.Common.{◌≡◌, ◌≢◌, ℕ, ◌+◌, ◌*◌, ◌<◌, List, [], length, arith}
 use Rattle.std.specs.Prelude.{codes}
 use Rattle.view_text.specs.ViewWords.{word_at}
 use Rattle.view_words.specs.declared.row.Row.TheVariants.{Draw, Info, Trial, Serve}
@@ -10,8 +10,7 @@ use Rattle.view_words.proofs.Names.{read_named, written_named, read_once, writte
 -- the survey and the picture of a `draw` are named, and differ unless both are `-`
 pub names-draw : (ws : List (List ℕ)) → IsLine Draw ws → (word_at ws 1 ≢ []) × (word_at ws 2 ≢ []) × (word_at ws 1 ≡ word_at ws 2 → word_at ws 1 ≡ codes "-")
 names-draw ws line =
-    let size = length-draw ws line in
-    (
+    let size = length-draw ws line in (
       read_named Draw ws 1 line (omega (arith, size)) kind_at-draw.0,
       written_named Draw ws 2 line (omega (arith, size)) kind_at-draw.1,
       read_and_written Draw ws 1 2 line (omega (arith, size)) (omega (arith, size)) kind_at-draw.0 kind_at-draw.1,
@@ -20,8 +19,7 @@ names-draw ws line =
 -- the survey and the text of an `info` are named, and differ unless both are `-`
 pub names-info : (ws : List (List ℕ)) → IsLine Info ws → (word_at ws 1 ≢ []) × (word_at ws 2 ≢ []) × (word_at ws 1 ≡ word_at ws 2 → word_at ws 1 ≡ codes "-")
 names-info ws line =
-    let size = length-info ws line in
-    (
+    let size = length-info ws line in (
       read_named Info ws 1 line (omega (arith, size)) kind_at-info.0,
       written_named Info ws 2 line (omega (arith, size)) kind_at-info.1,
       read_and_written Info ws 1 2 line (omega (arith, size)) (omega (arith, size)) kind_at-info.0 kind_at-info.1,

@@ -3,7 +3,7 @@
 --   info SURVEY OUT
 --   trial START N WORKERS OUT
 --   serve SURVEY WORKERS JOURNAL IN1 OUT1 .., with 1 to 16 pairs
-use Rattle.std.specs.Prelude.{◌≡◌, ℕ, ◌+◌, ◌-◌, ◌%◌, ◌^◌, ◌==◌, ◌&&◌, ◌||◌, not, nat_lt, nat_le, ℤ, pos, negsuc, Bool, true, false, List, [], ◌∷◌, map, length, drop, String, string_bytes, codes, Option, Some, None, is_none, if◌then◌else◌}
+use Rattle.std.specs.Prelude.{◌≡◌, ℕ, ◌-◌, ◌%◌, ◌^◌, ◌==◌, ◌&&◌, ◌||◌, not, nat_le, ℤ, pos, negsuc, Bool, true, false, List, [], ◌∷◌, map, length, drop, String, string_bytes, codes, Option, Some, None, is_none, if◌then◌else◌}
 use Rattle.std.specs.List.{find, list_any, range_with_len}
 use Rattle.std.specs.Option.{option_or}
 use Rattle.std.specs.Str.{bytes_eq}
@@ -103,6 +103,13 @@ is_whole Draw n = n == 26
 is_whole Info n = n == 3
 is_whole Trial n = n == 5
 is_whole Serve n = nat_le 6 n && n % 2 == 0
+
+-- the fewest words that a row has
+abbrev pub least_words : Row → ℕ
+least_words Draw = 26
+least_words Info = 3
+least_words Trial = 5
+least_words Serve = 6
 
 -- the number of words where a row needs more of them, or none
 abbrev pub missing : Row → List (List ℕ) → Option ℕ

@@ -1,5 +1,5 @@
-ghost use Rattle.std.specs.Prelude.{◌≡◌, [], ◌∷◌, Some, None, OnOk, IfOk, IfErr};
-ghost use Rattle.view_words.specs.CommandLine.{texts, all_rows, badword, IsLine};
+ghost use Rattle.std.specs.Prelude.{◌≡◌, ◌≤◌, [], ◌∷◌, length, Some, None, OnOk, IfOk, IfErr};
+ghost use Rattle.view_words.specs.CommandLine.{texts, all_rows, badword, IsLine, least_words};
 
 use crate::refusing::badword_in;
 use crate::row::{Row, begins, row_of};
@@ -10,6 +10,7 @@ use crate::row::{Row, begins, row_of};
 pub fn read_words(words: &[String]) -> Result<Row, u32>
     ensures fits { OnOk result (badword all_rows (texts words.now) ≡ None) }
     ensures row { IfOk result (λ row. IsLine row (texts words.now)) }
+    ensures long { IfOk result (λ row. least_words row ≤ length words.now) }
     ensures refused { IfErr result (λ at. badword all_rows (texts words.now) ≡ Some at) }
 {
     let Some(row) = row_of(words) else {
@@ -26,6 +27,7 @@ pub fn read_words(words: &[String]) -> Result<Row, u32>
 /// or the number of words where more are needed. Takes no memory.
 pub fn read_row(row: Row, words: &[String]) -> Result<(), u32>
     ensures fits { OnOk result (IsLine row (texts words.now)) }
+    ensures long { OnOk result (least_words row ≤ length words.now) }
     ensures refused { IfErr result (λ at. badword (row ∷ []) (texts words.now) ≡ Some at) }
 {
     if !begins(row, words) {
@@ -40,6 +42,7 @@ pub fn read_row(row: Row, words: &[String]) -> Result<(), u32>
 #[cfg(test)]
 mod tests {
     use super::*;
+    use crate::fields::{is_built, numbers_of, pair_count, records, start, text_at, workers};
     use std::alloc::{AllocError, Global};
 
     /// The words of a line, which single spaces part; two spaces have an empty word between them.
@@ -143,13 +146,43 @@ mod tests {
     }
 
     #[test]
-    fn the_words_of_a_row_are_told(rt: HostRuntime) -> Result<(), AllocError> {
+    fn the_words_of_a_trial_are_told(rt: HostRuntime) -> Result<(), AllocError> {
         let trial = words(rt.alloc(), "trial 18446744073709551615 0008 064 t")?;
         assert!(rt; read_row(Row::Trial, &trial).is_ok());
-        assert_eq!(rt; crate::start(&trial), u64::MAX);
-        assert_eq!(rt; crate::records(&trial), 8);
-        assert_eq!(rt; crate::workers(Row::Trial, &trial), 64);
-        assert_eq!(rt; crate::text_at(&trial, 4), "t");
+        assert_eq!(rt; start(&trial), u64::MAX);
+        assert_eq!(rt; records(&trial), 8);
+        assert_eq!(rt; workers(Row::Trial, &trial), 64);
+        assert_eq!(rt; text_at(&trial, 4), "t");
+        Ok(())
+    }
+
+    #[test]
+    fn the_pairs_of_a_serve_are_counted(rt: HostRuntime) -> Result<(), AllocError> {
+        let serve = words(rt.alloc(), "serve a 3 j i o p q")?;
+        assert!(rt; read_row(Row::Serve, &serve).is_ok());
+        assert_eq!(rt; workers(Row::Serve, &serve), 3);
+        assert_eq!(rt; pair_count(&serve), 2);
+        Ok(())
+    }
+
+    #[test]
+    fn the_numbers_of_a_draw_are_told(rt: HostRuntime) -> Result<(), AllocError> {
+        let line = "draw a b 1 ortho 1 2 3 4 5 6 7 8 9 10 11 12 13 14 15 16 17 -18 class all show";
+        let draw = words(rt.alloc(), line)?;
+        assert!(rt; read_row(Row::Draw, &draw).is_ok());
+        assert_eq!(rt; workers(Row::Draw, &draw), 1);
+        assert_eq!(rt; numbers_of(&draw)[0], 1);
+        assert_eq!(rt; numbers_of(&draw)[17], -18);
+        assert!(rt; is_built(&draw));
+        Ok(())
+    }
+
+    #[test]
+    fn a_view_of_some_classes_is_not_drawn_so_far(rt: HostRuntime) -> Result<(), AllocError> {
+        let line = "draw a b 1 ortho 1 2 3 4 5 6 7 8 9 10 11 12 13 14 15 16 17 18 class 0-255 show";
+        let draw = words(rt.alloc(), line)?;
+        assert!(rt; read_row(Row::Draw, &draw).is_ok());
+        assert!(rt; !is_built(&draw));
         Ok(())
     }
 }

@@ -1,4 +1,4 @@
-use Rattle.std.proofs.Common.{◌≡◌, arith}
+use Rattle.std.proofs.Common.{arith}
 use Rattle.view_words.specs.CommandLine.{texts}
 use Rattle.view_words.proofs.Lines.{length-texts, length-draw}
 use Rattle.view_words.proofs.fields.is_built.Goals as goal

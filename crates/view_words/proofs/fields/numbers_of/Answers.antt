@@ -1,9 +1,8 @@
-use Rattle.std.proofs.Common.{◌≡◌, ◌+◌, ◌∙◌, ℕ, ℤ, List, Option, IsSome, Some, sym, ap, subst, arith, length, set}
+use Rattle.std.proofs.Common.{◌≡◌, ◌∙◌, ℕ, ℤ, Option, IsSome, sym, ap, subst, arith}
 use Rattle.view_base.specs.Text.{number}
-use Rattle.view_text.specs.ViewWords.{word_at}
 use Rattle.view_words.specs.CommandLine.{texts}
 use Rattle.view_words.proofs.Lines.{length-texts, length-draw}
-use Rattle.view_words.proofs.Numbers.{Reads, draw_number, reads_more, camera_numbers-read}
+use Rattle.view_words.proofs.Numbers.{Reads, draw_number, camera_numbers-read}
 use Rattle.view_words.proofs.fields.numbers_of.Goals as goal
 
 pub text_at-requires : goal.text_at-requires

@@ -1,4 +1,4 @@
-use Rattle.std.proofs.Common.{◌≡◌, ◌≤◌, ℕ, arith}
+use Rattle.std.proofs.Common.{arith}
 use Rattle.view_words.specs.CommandLine.{texts}
 use Rattle.view_words.proofs.Lines.{length-texts, length-serve}
 use Rattle.view_words.proofs.fields.pair_count.Goals as goal

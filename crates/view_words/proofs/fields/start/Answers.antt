@@ -1,4 +1,4 @@
-use Rattle.std.proofs.Common.{◌≡◌, ℕ, ◌∙◌, Option, IsSome, arith, sym, ap, subst}
+use Rattle.std.proofs.Common.{ℕ, ◌∙◌, Option, IsSome, arith, sym, ap, subst}
 use Rattle.std.specs.Prelude.{◌^◌, ◌-◌}
 use Rattle.view_words.specs.CommandLine.{texts, number_within}
 use Rattle.view_words.proofs.Lines.{length-texts, length-trial, number_within-start}

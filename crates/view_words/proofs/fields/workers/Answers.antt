@@ -1,6 +1,6 @@
-use Rattle.std.proofs.Common.{◌≡◌, ℕ, ◌∙◌, List, Option, IsSome, arith, sym, ap, subst}
+use Rattle.std.proofs.Common.{ℕ, ◌∙◌, Option, IsSome, arith, sym, ap, subst}
 use Rattle.view_text.specs.ViewWords.{word_at}
-use Rattle.view_words.specs.CommandLine.{texts, number_within, workers_place}
+use Rattle.view_words.specs.CommandLine.{texts, number_within}
 use Rattle.view_words.proofs.Lines.{length-texts, workers_within, number_within-workers}
 use Rattle.view_words.proofs.fields.workers.Goals as goal
 

@@ -1,4 +1,4 @@
-use Rattle.std.proofs.Common.{◌≡◌, ◌∙◌, ℕ, true, false, Option, Some, None, length, sym, ap, arith}
+use Rattle.std.proofs.Common.{◌≡◌, ◌∙◌, ℕ, true, false, Some, None, length, sym, ap, arith}
 use Rattle.view_words.specs.CommandLine.{texts, first_refused, is_whole}
 use Rattle.view_words.proofs.Lines.{length-texts}
 use Rattle.view_words.proofs.Refusals.{unrefused, unrefused_few, badword_in-refused, badword_in-missing, badword_in-none}

@@ -1,5 +1,5 @@
-use Rattle.std.proofs.Common.{◌≡◌, ◌∙◌, ℕ, ◌<◌, false, Some, sym, subst, arith}
-use Rattle.view_words.specs.CommandLine.{texts, is_refused}
+use Rattle.std.proofs.Common.{◌∙◌, sym, arith}
+use Rattle.view_words.specs.CommandLine.{texts}
 use Rattle.view_words.proofs.Lines.{length-texts}
 use Rattle.view_words.proofs.Refusals.{first_refused-at, first_refused-none, unrefused_few}
 use Rattle.view_words.proofs.refusing.first_refused.Goals as goal

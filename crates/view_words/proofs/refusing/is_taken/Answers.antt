@@ -1,4 +1,4 @@
-use Rattle.std.proofs.Common.{◌≡◌, ◌∙◌, ℕ, ◌<◌, false, sym, subst, arith}
+use Rattle.std.proofs.Common.{◌≡◌, ◌∙◌, ℕ, false, sym, arith}
 use borrow.Author.Count.{below_more}
 use Rattle.view_words.specs.CommandLine.{texts, barred}
 use Rattle.view_words.proofs.Names.{is_taken-some, is_taken-none}
