@@ -28,7 +28,7 @@ pub struct Header {
 }
 
 impl Header {
-    ghost use Rattle.las_survey.specs.Header.{IsHeaderOf};
+    ghost use Rattle.las_header.specs.Header.{IsHeaderOf};
 
     /// The fields in the first 375 bytes of a file.
     #[tactic(auto, unfolding(view_meaning::specs::Survey::u8_at))]

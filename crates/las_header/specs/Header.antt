@@ -1,6 +1,6 @@
 -- The header's fields as numbers at their offsets.
 use Rattle.std.specs.Prelude.{◌≡◌, ℕ, List}
-use Rattle.las_survey.specs.declared.header.Header.{Header}
+use Rattle.las_header.specs.declared.header.Header.{Header}
 use Rattle.view_meaning.specs.Survey.{u8_at, header_size, points_at, vlr_count, format_of, record_length, record_count, evlrs_at, evlr_count}
 
 -- the fields of a header are those that a file has at their offsets
