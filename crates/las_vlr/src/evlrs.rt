@@ -1,4 +1,4 @@
-ghost use Rattle.std.specs.Prelude.{◌≡◌, ◌+◌, ◌*◌, ◌≤◌, ◌&&◌, nat_le, if◌then◌else◌, length, Some, None, IfOk, OnOk, IfErr, IsOk};
+ghost use Rattle.std.specs.Prelude.{◌≡◌, ◌+◌, ◌*◌, ◌<◌, ◌≤◌, length, None, IfSome, IfNone, IfOk, OnOk, IfErr, IsOk};
 ghost use Rattle.las_vlr.specs.Fault.{IsEvlrFault};
 ghost use Rattle.las_vlr.specs.Places.{evlr_places};
 ghost use Rattle.view_meaning.specs.Layout.{evlr_fault};
@@ -61,7 +61,10 @@ pub fn walk_evlrs(alloc: Global, bytes: &[u8], first: u64, points_end: u64, coun
 /// The length after its header of the extended variable length record at a place, where it begins
 /// at `points_end` or after and ends within the file.
 fn evlr_length(bytes: &[u8], at: u64, points_end: u64) -> Option<u64>
-    ensures { result ≡ (if nat_le points_end at && nat_le (at + 60 + u64_at bytes.now (at + 20)) (length bytes.now) then Some (u64_at bytes.now (at + 20)) else None) }
+    ensures length { IfSome result (λ size. size ≡ u64_at bytes.now (at + 20)) }
+    ensures after { IfSome result (λ _. points_end ≤ at) }
+    ensures fits { IfSome result (λ size. at + 60 + size ≤ length bytes.now) }
+    ensures beyond { IfNone result (points_end ≤ at → length bytes.now < at + 60 + u64_at bytes.now (at + 20)) }
 {
     if at < points_end {
         return None;

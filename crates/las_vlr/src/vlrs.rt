@@ -1,4 +1,4 @@
-ghost use Rattle.std.specs.Prelude.{◌≡◌, ◌+◌, ◌*◌, ◌≤◌, nat_le, if◌then◌else◌, length, Some, None, IfOk, OnOk, IfErr, IsOk};
+ghost use Rattle.std.specs.Prelude.{◌≡◌, ◌+◌, ◌*◌, ◌<◌, ◌≤◌, length, None, IfSome, IfNone, IfOk, OnOk, IfErr, IsOk};
 ghost use Rattle.las_vlr.specs.Fault.{IsVlrFault};
 ghost use Rattle.las_vlr.specs.Places.{vlr_places};
 ghost use Rattle.view_meaning.specs.Layout.{vlr_fault};
@@ -62,7 +62,9 @@ pub fn walk_vlrs(alloc: Global, bytes: &[u8], first: u64, end: u64, count: u32) 
 /// or before.
 fn vlr_length(bytes: &[u8], at: u64, end: u64) -> Option<u64>
     requires { end ≤ length bytes.now }
-    ensures { result ≡ (if nat_le (at + 54 + u16_at bytes.now (at + 20)) end then Some (u16_at bytes.now (at + 20)) else None) }
+    ensures length { IfSome result (λ size. size ≡ u16_at bytes.now (at + 20)) }
+    ensures fits { IfSome result (λ size. at + 54 + size ≤ end) }
+    ensures beyond { IfNone result (end < at + 54 + u16_at bytes.now (at + 20)) }
 {
     let room = end.checked_sub(at)?.checked_sub(HEADER)?;
     let length = u64::from(u16_in(bytes, at as usize + 20));
