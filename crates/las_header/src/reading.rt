@@ -56,10 +56,14 @@ pub fn read_header(bytes: &[u8]) -> Result<Header, HeaderFault>
         return Err(HeaderFault::HeaderSize { size: header.size });
     }
     if header.format >= 128 {
-        return Err(HeaderFault::Compressed { byte: header.format });
+        return Err(HeaderFault::Compressed {
+            byte: header.format,
+        });
     }
     if header.format > 10 {
-        return Err(HeaderFault::Format { byte: header.format });
+        return Err(HeaderFault::Format {
+            byte: header.format,
+        });
     }
     let (have, least) = (header.length, least_length(header.format));
     if have < least {

@@ -36,7 +36,13 @@ impl From<OutOfMemory> for EvlrFault {
 /// `first`, each other where the one before ends. Each is to begin at `points_end`, the end of the
 /// points, or after, and to end within the file; the first that does not is the fault. Room is
 /// made only for records that fit, and none for a `count` of 0.
-pub fn walk_evlrs(alloc: Global, bytes: &[u8], first: u64, points_end: u64, count: u32) -> Result<VlrList, EvlrFault>
+pub fn walk_evlrs(
+    alloc: Global,
+    bytes: &[u8],
+    first: u64,
+    points_end: u64,
+    count: u32,
+) -> Result<VlrList, EvlrFault>
     requires { points_end ≤ length bytes.now }
     ensures places { IfOk result (λ list. list.items ≡ evlr_places bytes.now first count) }
     ensures fitting { OnOk result (evlr_fault bytes.now first points_end count ≡ None) }

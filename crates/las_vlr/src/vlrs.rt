@@ -36,7 +36,13 @@ impl From<OutOfMemory> for VlrFault {
 /// other where the one before ends. Each is to end at `end`, the offset to point data, or before,
 /// and within the file; the first that does not is the fault. Room is made only for records that
 /// fit, and none for a `count` of 0.
-pub fn walk_vlrs(alloc: Global, bytes: &[u8], first: u64, end: u64, count: u32) -> Result<VlrList, VlrFault>
+pub fn walk_vlrs(
+    alloc: Global,
+    bytes: &[u8],
+    first: u64,
+    end: u64,
+    count: u32,
+) -> Result<VlrList, VlrFault>
     ensures places { IfOk result (λ list. list.items ≡ vlr_places bytes.now first count) }
     ensures fitting { OnOk result (vlr_fault bytes.now first end count ≡ None) }
     ensures fault { IfErr result (λ fault. IsVlrFault fault (vlr_fault bytes.now first end count)) }
