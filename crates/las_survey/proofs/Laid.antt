@@ -90,9 +90,9 @@ pub laid-sound : (b : List ℕ) → IsLaid b → IsSound b
 unfolding IsLaid fault header_faults
 laid-sound b none =
     let all : List (Option Fault) = header_faults b ++ vlr_fault b (header_size b) (points_at b) (vlr_count b)
-        ∷ unless (nat_le (points_end b) (length b)) (missing_points (points_end b) (length b))
-        ∷ evlr_fault b (evlrs_at b) (points_end b) (evlr_count b)
-        ∷ [] in
+    ∷ unless (nat_le (points_end b) (length b)) (missing_points (points_end b) (length b))
+    ∷ evlr_fault b (evlrs_at b) (points_end b) (evlr_count b)
+    ∷ [] in
     record {
       whole = at_least 375 (length b) (few_bytes (length b)) (none-each all 0 none);
       known = at_least (format_of b) 10 (unknown_format (format_of b)) (none-each all 5 none);

@@ -3,10 +3,12 @@
 #![tactic(auto)]
 
 mod fault;
+#[cfg(test)]
+mod limit_tests;
 mod loading;
 mod survey;
-
-
+#[cfg(test)]
+mod tests;
 
 pub use fault::SurveyFault;
 pub use las_header::{Header, HeaderFault};

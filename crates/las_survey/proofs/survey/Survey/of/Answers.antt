@@ -27,8 +27,8 @@ returns-then-need-from-clause-survey c = λ found is.
     let need : c.points_end_of-need.result ≡ points_end b = points_end-fields _ _ _ c.in_ok-header.ensures.fields c.points_end_of-need.ensures in
     let short : length b < points_end b = omega arith in
     let told : fault b ≡ Some (missing_points (points_end b) (length b)) =
-        fault-points b c.in_ok-header.ensures.met
-        (vlr_fault-fields _ c.in_ok-header.header _ _ _ c.in_ok-header.ensures.fields c.from-first.ensures c.from.ensures c.in_ok-vlrs.ensures.fitting) short in
+    fault-points b c.in_ok-header.ensures.met
+    (vlr_fault-fields _ c.in_ok-header.header _ _ _ c.in_ok-header.ensures.fields c.from-first.ensures c.from.ensures c.in_ok-vlrs.ensures.fitting) short in
     let same : Points c.points_end_of-need.result (length b) ≡ found = cc is in
     rw (← c.as_slice-all.ensures) (told ∙ ap (λ (n : ℕ). Some (missing_points n (length b))) (sym need) ∙ ap (λ (x : SurveyFault). Some (fault_of x)) same)
 
