@@ -1,11 +1,10 @@
 -- What follows from what a survey's type keeps, for the bytes that its callers see.
-use Rattle.std.proofs.Common.{◌≡◌, ℕ, ◌+◌, ◌*◌, ◌≤◌, ◌<◌, List, length, sym, ap, subst, arith}
+use Rattle.std.proofs.Common.{◌≡◌, ℕ, ◌≤◌, List, subst, arith}
 use Rattle.las_header.specs.declared.header.Header.{Header}
 use Rattle.las_vlr.specs.declared.place.VlrPlace.{VlrPlace}
-use Rattle.view_meaning.specs.Layout.{IsLaid}
-use Rattle.view_meaning.specs.Survey.{record_count, record_at, record_length}
+use Rattle.view_meaning.specs.Survey.{record_count}
 use Rattle.las_survey.specs.Kept.{IsKept}
-use Rattle.las_survey.proofs.Laid.{IsSound, laid-sound, few_records, record-within}
+use Rattle.las_survey.proofs.Laid.{IsSound, laid-sound, few_records}
 
 pub kept-sound : (b inside : List ℕ) (h : Header) (vlrs evlrs : List VlrPlace) → IsKept inside h vlrs evlrs → inside ≡ b → IsSound b
 kept-sound b inside h vlrs evlrs kept same = subst IsSound same (laid-sound inside kept.laid)

@@ -1,5 +1,5 @@
 -- The fault that a load answers for the first condition that a file does not meet.
-use Rattle.std.proofs.Common.{◌≡◌, ℕ, ◌+◌, ◌*◌, ◌≤◌, ◌<◌, List, length, ap, sym, ◌∙◌, subst, arith, Option, Some, None, Result}
+use Rattle.std.proofs.Common.{◌≡◌, ℕ, ◌+◌, ◌*◌, List, ap, ◌∙◌, Option, Some, Result}
 use Rattle.std.specs.Prelude.{IsErrOf, IsErrAnd}
 use Rattle.las_header.specs.declared.fault.HeaderFault.{HeaderFault}
 use Rattle.las_header.specs.declared.header.Header.{Header}

@@ -1,4 +1,4 @@
-ghost use Rattle.std.specs.Prelude.{◌≡◌, ℕ, ◌+◌, ◌≤◌, ◌<◌, List, length, Some, IfOk, IfSome, IsErrOf};
+ghost use Rattle.std.specs.Prelude.{◌≡◌, ℕ, ◌+◌, ◌^◌, ◌≤◌, ◌<◌, List, length, Some, IfOk, IfSome, IsErrOf};
 ghost use Rattle.las_survey.specs.Fault.{fault_of};
 ghost use Rattle.las_survey.specs.Loading.{TookAll};
 ghost use Rattle.view_ends.specs.Ends.{Rose};
@@ -96,6 +96,7 @@ pub fn load<S: Source>(alloc: Global, source: &mut S) -> Result<Survey, LoadFaul
     ensures later { S.faults source.old ≤ S.faults source.new }
     ensures few { S.taken source.new ≤ S.taken source.old + (LIMIT + 1) }
     ensures no_more { (IsErrOf result LoadFault.TooLong → ⊥) → S.taken source.new ≤ S.taken source.old + LIMIT }
+    ensures limit { LIMIT ≡ 2 ^ 30 }
 {
     let bytes = taken_from(alloc, source)?;
     Survey::of(alloc, bytes)

@@ -1,5 +1,5 @@
 -- The first number of a range that fails a test.
-use Rattle.std.proofs.Common.{◌≡◌, ℕ, zero, suc, ◌+◌, ◌≤◌, ◌<◌, Bool, true, false, refl, ap, sym, ◌∙◌, arith, Option, Some, None, add-one, subst}
+use Rattle.std.proofs.Common.{◌≡◌, ℕ, zero, suc, ◌+◌, ◌≤◌, ◌<◌, Bool, true, false, refl, ap, ◌∙◌, arith, Some, None}
 use Rattle.std.specs.Prelude.{not}
 use Rattle.std.specs.List.{range_with_len, position_from}
 use Rattle.std.proofs.lemmas.Iterator.Adapters.{position_from-zero}

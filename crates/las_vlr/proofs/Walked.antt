@@ -1,10 +1,9 @@
 -- The variable length records that a walk has passed.
-use Rattle.std.proofs.Common.{◌≡◌, ℕ, zero, suc, ◌+◌, ◌*◌, ◌≤◌, ◌<◌, List, [], ◌∷◌, ◌++◌, length, min, Bool, true, false, refl, ap, sym, ◌∙◌, arith, Option, Some, None, add-one, subst, ◌⊎◌, inl, inr}
-use Rattle.std.specs.Prelude.{nat_le, ◌&&◌}
+use Rattle.std.proofs.Common.{◌≡◌, ℕ, ◌+◌, ◌*◌, ◌≤◌, ◌<◌, List, [], ◌∷◌, ◌++◌, length, min, true, false, refl, ap, sym, ◌∙◌, arith, Some, None, add-one}
 use Rattle.std.specs.Option.{option_map}
 use Rattle.std.proofs.lemmas.Bool.Decides.{nat_tests}
 use Rattle.std.proofs.lemmas.List.FromFn.{map-range_with_len_more, length-map-range_with_len}
-use Rattle.view_meaning.specs.Layout.{vlr_at, vlr_fits, vlr_fault, unfit_vlr, first_failing}
+use Rattle.view_meaning.specs.Layout.{vlr_at, vlr_fits, vlr_fault, unfit_vlr}
 use Rattle.view_meaning.specs.Survey.{u16_at}
 use Rattle.las_vlr.specs.declared.place.VlrPlace.{VlrPlace}
 use Rattle.las_vlr.specs.Places.{vlr_place, vlr_places}

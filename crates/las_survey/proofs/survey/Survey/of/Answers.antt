@@ -1,6 +1,6 @@
-use Rattle.std.proofs.Common.{rules, arith, ◌≡◌, ◌≤◌, ◌<◌, length, List, ℕ, sym, subst, Some, ap, None, ◌∙◌, ◌^◌}
-use Rattle.view_meaning.specs.Layout.{fault, vlr_fault, evlr_fault, missing_points, IsLaid}
-use Rattle.view_meaning.specs.Survey.{header_size, points_at, vlr_count, evlrs_at, evlr_count, points_end}
+use Rattle.std.proofs.Common.{arith, ◌≡◌, ◌≤◌, ◌<◌, length, List, ℕ, sym, subst, Some, ap, ◌∙◌, ◌^◌}
+use Rattle.view_meaning.specs.Layout.{fault, missing_points}
+use Rattle.view_meaning.specs.Survey.{points_end}
 use Rattle.las_survey.specs.Fault.{fault_of}
 use Rattle.las_survey.specs.Kept.{IsKept}
 use Rattle.las_survey.specs.declared.fault.SurveyFault.{SurveyFault}

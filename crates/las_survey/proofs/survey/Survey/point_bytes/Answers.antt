@@ -1,7 +1,7 @@
-use Rattle.std.proofs.Common.{◌≡◌, ◌+◌, ◌-◌, ◌*◌, ◌≤◌, ℕ, take, drop, arith, List, ◌∙◌, ap, length, rules, sym}
+use Rattle.std.proofs.Common.{◌≡◌, ◌+◌, ◌-◌, ◌*◌, ◌≤◌, ℕ, take, drop, arith, List, ◌∙◌, ap, length, rules}
 use Rattle.view_meaning.specs.Survey.{record_at, record_length, points_at}
 use Rattle.las_survey.proofs.Kept.{kept-sound}
-use Rattle.las_survey.proofs.Laid.{long_records, record-within, IsSound}
+use Rattle.las_survey.proofs.Laid.{long_records, record-within}
 use Rattle.las_survey.proofs.survey.Survey.point_bytes.Goals as goal
 
 part_is : (a i s at size : ℕ) (xs b : List ℕ) → a + i * s ≡ at → s ≡ size → xs ≡ b → take (a + i * s + s - (a + i * s)) (drop (a + i * s) xs) ≡ take size (drop at b)
