@@ -1,5 +1,5 @@
 ghost use Rattle.std.specs.Prelude.{◌≡◌, ◌+◌, ◌*◌, ◌≤◌, ◌<◌, length, take, drop, slice_index};
-ghost use Rattle.las_survey.specs.Header.{IsHeaderOf};
+ghost use Rattle.las_header.specs.Header.{IsHeaderOf};
 ghost use Rattle.class_pages.specs.Fitting.{EachFits};
 ghost use Rattle.las_write.specs.Points.{HasPoints, saved_records};
 ghost use Rattle.view_meaning.specs.Survey.{format_of, record_at, record_count, record_length};

@@ -1,7 +1,7 @@
 use Rattle.std.proofs.Common.{◌≡◌, ℕ, ◌+◌, ◌-◌, ◌*◌, List, length, take, drop, arith, ap, ◌∙◌}
 use Rattle.std.proofs.lemmas.List.{take_rest}
 use Rattle.view_meaning.specs.Survey.{points_at, points_end, record_count, record_length}
-use Rattle.las_write.proofs.Plain.{HasPoints-plain}
+use Rattle.las_write.proofs.Fitting.{HasPoints-fitting}
 use Rattle.las_write.proofs.writing.around_points.Goals as goal
 
 -- the bytes before a place, as the code cuts them
@@ -27,4 +27,4 @@ returns-clause-after c =
     (end_is c.args.survey.now _ _ _ c.header-header.ensures.fields.points_at c.records.ensures.count (c.from.ensures ∙ c.header-header.ensures.fields.bytes_a_record))
 
 pub returns-clause-there : goal.returns-clause-there
-returns-clause-there c = HasPoints-plain c.args.survey.now c.bytes-bytes.ensures.plain (omega (arith, c.records.ensures.count, c.records.ensures.small))
+returns-clause-there c = HasPoints-fitting c.args.survey.now c.header-header.ensures.known c.header-header.ensures.fitting c.bytes-bytes.ensures.points (omega (arith, c.records.ensures.count, c.records.ensures.small))
