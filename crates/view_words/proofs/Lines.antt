@@ -1,10 +1,11 @@
 -- What is known of the words of a row that fit: how many they are, and what its numbers and view words are.
-use Rattle.std.proofs.Common.{◌≡◌, ◌≢◌, ℕ, suc, ◌+◌, ◌*◌, ◌/◌, ◌-◌, ◌<◌, ◌≤◌, List, [], ◌∷◌, Option, Some, None, IsSome, ℤ, pos, negsuc, Bool, true, false, length, drop, refl, sym, ◌∙◌, ap, subst, arith, length-drop}
+use Rattle.std.proofs.Common.{◌≡◌, ◌≢◌, ℕ, suc, ◌+◌, ◌*◌, ◌/◌, ◌-◌, ◌<◌, ◌≤◌, List, [], ◌∷◌, Option, Some, None, IsSome, ℤ, pos, negsuc, Bool, true, false, length, drop, take, map, refl, sym, ◌∙◌, ap, subst, arith, length-drop}
 use Rattle.std.proofs.lemmas.Bool.Decides.{nat_tests}
-use Rattle.std.proofs.lemmas.List.{get_or-drop, length-map}
+use Rattle.std.proofs.lemmas.List.{drop-map, get_or-drop, length-map}
+use Rattle.std.proofs.Math.Seq.{take-length}
 use Rattle.std.specs.Prelude.{String, string_bytes, ◌==◌, ◌%◌, not, nat_le, ◌&&◌, ◌^◌, is_none, if◌then◌else◌}
 use Rattle.view_base.specs.Text.{number}
-use Rattle.view_text.specs.ViewWords.{fits, fitting, words_fault, word_at}
+use Rattle.view_text.specs.ViewWords.{fits, fitting, words_fault, is_built, camera_numbers, view_by, view_of, word_at}
 use Rattle.view_words.specs.declared.row.Row.{Row}
 use Rattle.view_words.specs.declared.row.Row.TheVariants.{Draw, Info, Trial, Serve}
 use Rattle.view_words.specs.declared.kind.WordKind.{WordKind}
@@ -139,3 +140,14 @@ words_fault-draw ws line =
     let count : length (drop 4 ws) ≡ 22 = omega (arith, length-drop 4 ws, length-draw ws line) in
     let fit : fitting 0 (drop 4 ws) ≡ 22 = fitting-all (drop 4 ws) 0 (λ k within. subst (λ (word : List ℕ). fits (0 + k) word ≡ true) (sym (get_or-drop 4 ws k [])) (subst (λ (j : ℕ). fits j (word_at ws (4 + k)) ≡ true) (omega arith) (draw_fits ws k line (omega arith)))) ∙ count in
     rw (count, fit) refl
+
+-- the view of a `draw`: none of its words is a fault
+pub view_of-draw : (ws : List (List ℕ)) → IsLine Draw ws → view_of (view_words ws) ≡ view_by (is_built (view_words ws)) (camera_numbers (view_words ws))
+unfolding view_of
+view_of-draw ws line = rw (words_fault-draw ws line) refl
+
+-- the texts of the words from place 4 on
+pub texts-from : {Y : Type 0} (words : List (String Y)) → 4 ≤ length words → map string_bytes (take (length words - 4) (drop 4 words)) ≡ view_words (texts words)
+texts-from words long =
+    let size : length (drop 4 words) ≡ length words - 4 = length-drop 4 words in
+    ap (λ (n : ℕ). map string_bytes (take n (drop 4 words))) (sym size) ∙ ap (map string_bytes) (take-length (drop 4 words)) ∙ sym (drop-map string_bytes 4 words)

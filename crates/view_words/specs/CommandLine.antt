@@ -65,8 +65,7 @@ bars ReadName WrittenName name = not (bytes_eq name (codes "-"))
 bars WrittenName ReadName name = not (bytes_eq name (codes "-"))
 bars _ _ name = false
 
--- whether the name at a place j bars the one at a later place k: it is the same name, and the two are not one `-` that
--- is read and one that is written
+-- whether the name at a place j bars the one at a later place k: it is the same name, and not a `-` read and a `-` written
 abbrev pub barred : Row → List (List ℕ) → ℕ → ℕ → Bool
 barred row ws k j = bytes_eq (word_at ws j) (word_at ws k) && bars (kind_at row j) (kind_at row k) (word_at ws k)
 
@@ -119,13 +118,12 @@ missing row ws = if is_whole row (length ws) then None else Some (length ws)
 unfoldable pub badword_in : Row → List (List ℕ) → Option ℕ
 badword_in row ws = option_or (first_refused row ws) (missing row ws)
 
--- the same of the row that the words begin, and the first word where they begin none
+-- the same of the row that the words begin, and place 0 where they begin none
 abbrev pub badword_of : Option Row → List (List ℕ) → Option ℕ
 badword_of None ws = Some 0
 badword_of (Some row) ws = badword_in row ws
 
--- the place of the first refused word of a command line by the rows that are taken, or the number of
--- words where more are needed, or none where the words fit
+-- the first refused word of a command line by the rows that are taken, or the number of words where more are needed, or none
 unfoldable pub badword : List Row → List (List ℕ) → Option ℕ
 badword rows ws = badword_of (row_in rows ws) ws
 
