@@ -13,7 +13,7 @@ use view_text::{TextFault, read_view};
 /// The command of the words of a view.
 fn view_command(text: &[u8]) -> Result<Command, Refusal>
     ensures command { result ≡ viewed (view_of (words text.now)) }
-    ensures by_class { IfOk result IsByClass }
+    ensures built { IfOk result IsByClass }
 {
     match read_view(text) {
         Ok(view) => Ok(Command::View(view)),
@@ -54,7 +54,7 @@ pub fn read_command(line: &[u8], format: u8) -> Result<Command, Refusal>
     requires { format ≤ 10 }
     ensures command { result ≡ command_of line.now format }
     ensures room { IfOk result (HasRoom format) }
-    ensures by_class { IfOk result IsByClass }
+    ensures built { IfOk result IsByClass }
 {
     let Some((start, end)) = next_word(line, 0) else {
         return Err(Refusal::Line);

@@ -65,7 +65,7 @@ fn are_built(words: &[String]) -> bool
 /// fits no place.
 pub fn read_view_words(words: &[String]) -> Result<ViewSpec, TextFault>
     ensures view { result ≡ view_of (map string_bytes words.now) }
-    ensures by_class { IfOk result (λ v. v ≡ by_class v.camera) }
+    ensures built { IfOk result (λ v. v ≡ by_class v.camera) }
 {
     match fault_of(words) {
         Some(fault) => Err(fault),

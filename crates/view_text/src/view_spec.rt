@@ -49,7 +49,7 @@ impl ViewSpec {
 /// The view of words that fit, by whether it is drawn so far and by its camera's numbers.
 pub(crate) fn view_by(built: bool, numbers: &[i128; 18]) -> Result<ViewSpec, TextFault>
     ensures view { result ≡ view_by built numbers.now }
-    ensures by_class { IfOk result (λ v. v ≡ by_class v.camera) }
+    ensures built { IfOk result (λ v. v ≡ by_class v.camera) }
 {
     if !built {
         return Err(TextFault::NotYet);
