@@ -1,1 +1,5 @@
-pub mod Serving
+pub mod Histories
+pub mod Tales
+pub mod Replying
+pub mod Adding
+pub mod Unserved
