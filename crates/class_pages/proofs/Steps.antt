@@ -7,10 +7,8 @@ use Rattle.std.proofs.lemmas.List.FromFn.{get_or-map-range_with_len, length-map-
 use Rattle.std.proofs.lemmas.List.Sums.{sum_by-append, fold-append}
 use Rattle.std.specs.List.{range_with_len}
 use mir.Val.{bool_byte}
-use Rattle.view_base.specs.declared.place.Point.{Point}
-use Rattle.view_meaning.specs.Survey.{record_count, record_length, record_at, format_of, class_place, class_byte, u8_at, i32_at, point_of}
+use Rattle.view_meaning.specs.Survey.{record_count, record_length, record_at, format_of, class_place, class_byte, u8_at, point_of}
 use Rattle.view_meaning.specs.Classes.{Edit, class_of, class_after, class_at, classes}
-use Rattle.view_meaning.proofs.Reading.{i32_at_part}
 use Rattle.view_meaning.proofs.Nearest.{range_more}
 use Rattle.class_pages.specs.Changed.{after_edit, changed}
 
@@ -81,18 +79,6 @@ class_read b i format place value bytes known at least taken read =
 pub classes_read : (b cs : List ℕ) → cs ≡ map (λ i. class_of (format_of b) (class_byte b i)) (range_with_len 0 (record_count b)) → cs ≡ classes b []
 unfolding classes class_at
 classes_read b cs read = read
-
--- the point of a record, from its bytes
-pub point_read : (b : List ℕ) (i : ℕ) (bytes : List ℕ) (p : Point) → 20 ≤ record_length b → bytes ≡ take (record_length b) (drop (record_at b i) b)
-    → p ≡ record { x = i32_at bytes 0; y = i32_at bytes 4; z = i32_at bytes 8 } → p ≡ point_of b i
-unfolding point_of
-point_read b i bytes p least taken read =
-    let here : record_at b i + 0 ≡ record_at b i = omega arith in
-    let part = take (record_length b) (drop (record_at b i) b) in
-    let x : i32_at part 0 ≡ i32_at b (record_at b i) = i32_at_part (record_at b i) (record_length b) 0 b (omega arith) ∙ ap (i32_at b) here in
-    let y : i32_at part 4 ≡ i32_at b (record_at b i + 4) = i32_at_part (record_at b i) (record_length b) 4 b (omega arith) in
-    let z : i32_at part 8 ≡ i32_at b (record_at b i + 8) = i32_at_part (record_at b i) (record_length b) 8 b (omega arith) in
-    cc (read, taken, x, y, z)
 
 -- the classes after an edit are those after one more edit of the list
 pub after_edit-classes : (b : List ℕ) (edits : List Edit) (e : Edit) → after_edit b (classes b edits) e ≡ classes b (edits ++ e ∷ [])

@@ -1,5 +1,6 @@
 ghost use Rattle.std.specs.Prelude.{◌≡◌, ◌≢◌, ◌≤◌, ◌<◌, ◌++◌, ◌∷◌, [], List, IfOk, length, slice_index};
 ghost use Rattle.class_pages.specs.Changed.{after_edit, changed};
+ghost use Rattle.class_pages.specs.Fitting.{EachFits};
 ghost use Rattle.view_meaning.specs.Classes as meaning;
 ghost use Rattle.view_meaning.specs.Survey.{record_count, format_of, point_of};
 
@@ -27,7 +28,9 @@ impl Model for Classes {
 
 /// The classes in a survey's file.
 pub fn base(alloc: Global, survey: &Survey) -> Result<Classes, OutOfMemory>
-    ensures { IfOk result (λ classes. classes ≡ meaning.classes survey.now []) }
+    ensures classes { IfOk result (λ classes. classes ≡ meaning.classes survey.now []) }
+    ensures size { IfOk result (λ classes. length classes ≡ record_count survey.now) }
+    ensures top { IfOk result (λ classes. EachFits (format_of survey.now) classes) }
 {
     let mut list = vec![in alloc; 0u8; survey.records() as usize]?;
     read_classes(&mut list, survey);
@@ -40,6 +43,13 @@ impl Classes {
         ensures { result ≡ length self.now }
     {
         self.list.len()
+    }
+
+    /// The classes as a slice, in the order of the records.
+    pub fn as_slice(&self) -> &[u8]
+        ensures { result.now ≡ self.now }
+    {
+        &self.list
     }
 
     /// The class of record `i`.
@@ -63,6 +73,8 @@ impl Classes {
         ensures classes { IfOk result (λ made. made.0 ≡ after_edit survey.now self.now edit.now) }
         ensures edits { IfOk result (λ made. (edits : List meaning.Edit) → self.now ≡ meaning.classes survey.now edits → made.0 ≡ meaning.classes survey.now (edits ++ edit.now ∷ [])) }
         ensures count { IfOk result (λ made. made.1 ≡ changed self.now made.0) }
+        ensures size { IfOk result (λ made. length made.0 ≡ record_count survey.now) }
+        ensures top { IfOk result (λ made. EachFits (format_of survey.now) self.now → EachFits (format_of survey.now) made.0) }
     {
         let mut list = self.list.as_slice().to_vec(alloc)?;
         let count = reclassify(&mut list, survey, edit);
@@ -73,7 +85,9 @@ impl Classes {
 /// Reads the class of each record.
 fn read_classes(list: &mut [u8], survey: &Survey)
     requires { length list.old ≡ record_count survey.now }
-    ensures { list.new ≡ meaning.classes survey.now [] }
+    ensures classes { list.new ≡ meaning.classes survey.now [] }
+    ensures size { length list.new ≡ record_count survey.now }
+    ensures top { EachFits (format_of survey.now) list.new }
 {
     let format = survey.header().format;
     for i in 0..survey.records() {
@@ -83,10 +97,13 @@ fn read_classes(list: &mut [u8], survey: &Survey)
 
 /// Makes an edit, and answers how many classes differ from before.
 fn reclassify(list: &mut [u8], survey: &Survey, edit: &Edit) -> u64
-    requires { length list.old ≡ record_count survey.now }
+    requires records { length list.old ≡ record_count survey.now }
+    requires room { edit.now.to ≤ meaning.top_class (format_of survey.now) }
     ensures classes { list.new ≡ after_edit survey.now list.old edit.now }
     ensures edits { (edits : List meaning.Edit) → list.old ≡ meaning.classes survey.now edits → list.new ≡ meaning.classes survey.now (edits ++ edit.now ∷ []) }
     ensures count { result ≡ changed list.old list.new }
+    ensures size { length list.new ≡ record_count survey.now }
+    ensures top { EachFits (format_of survey.now) list.old → EachFits (format_of survey.now) list.new }
 {
     let mut count = 0;
     for i in 0..survey.records() {

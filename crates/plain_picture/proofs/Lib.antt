@@ -1,1 +1,3 @@
+pub mod Colouring
+pub mod Lengths
 pub mod Plain

@@ -1,2 +1,3 @@
-pub mod Plotted
 pub mod Names
+pub mod Passing
+pub mod Plotted

@@ -1,50 +1,59 @@
-ghost use Rattle.std.specs.Prelude.{◌≡◌, ◌*◌, ◌+◌, ◌-◌, ◌<◌, ◌≤◌, ◌%◌, ◌^◌, ◌++◌, All, length, slice_index, []};
+ghost use Rattle.std.specs.Prelude.{◌≡◌, ℕ, ◌*◌, ◌+◌, ◌-◌, ◌<◌, ◌≤◌, ◌%◌, ◌^◌, ◌++◌, All, List, length, slice_index};
 ghost use Rattle.std.specs.List.{flat_map};
 ghost use Rattle.view_base.specs.declared.colour.Colouring.TheVariants.{Class};
-ghost use Rattle.view_meaning.specs.Classes.{classes};
 ghost use Rattle.view_meaning.specs.Frame.{record_in, word_colour};
 ghost use Rattle.view_meaning.specs.Picture.{class_colour};
-ghost use Rattle.view_meaning.specs.Survey.{record_count};
 ghost use Rattle.plain_picture.specs.Names.{NamesOne};
 
 use crate::frame::EMPTY;
-use las_survey::Survey;
 use view_base::Bytes;
 
-/// Appends the colours of words, three bytes for each. They fit in the room, so this takes no
-/// memory.
-pub(crate) fn append_colours(words: &[u64], survey: &Survey, out: &mut Bytes)
+/// How many pixels' colours are appended at once.
+const CHUNK: usize = 1024;
+
+/// Appends the colours of words by the classes of the records that they name, three bytes for each
+/// word. They fit in the room, so this takes no memory.
+pub(crate) fn append_colours(words: &[u64], classes: &[u8], out: &mut Bytes)
     requires room { 3 * length words.now ≤ out.old.spare }
-    requires names { All (NamesOne survey.now) words.now }
-    ensures { out.new.items ≡ out.old.items ++ flat_map (word_colour survey.now (classes survey.now []) Class) words.now }
+    requires names { All (NamesOne (length classes.now)) words.now }
+    ensures { (b : List ℕ) → out.new.items ≡ out.old.items ++ flat_map (word_colour b classes.now Class) words.now }
 {
-    for word in words {
-        let colour = colour_of(*word, survey);
-        out.append(&colour).unwrap();
+    let mut colours = [0; 3 * CHUNK];
+    for chunk in words.chunks(CHUNK) {
+        let bytes = 3 * chunk.len();
+        colour_pixels(&mut colours[..bytes], chunk, classes);
+        out.append(&colours[..bytes]).unwrap();
     }
 }
 
-/// The three bytes of a pixel with this word.
-fn colour_of(word: u64, survey: &Survey) -> [u8; 3]
-    requires { NamesOne survey.now word }
-    ensures { result ≡ word_colour survey.now (classes survey.now []) Class word }
+/// Writes the three bytes of each pixel with one of these words.
+fn colour_pixels(colours: &mut [u8], words: &[u64], classes: &[u8])
+    requires size { length colours.old ≡ 3 * length words.now }
+    requires names { All (NamesOne (length classes.now)) words.now }
+    ensures { (b : List ℕ) → colours.new ≡ flat_map (word_colour b classes.now Class) words.now }
+{
+    for pixel in 0..words.len() {
+        let [red, green, blue] = colour_of(words[pixel], classes);
+        colours[3 * pixel] = red;
+        colours[3 * pixel + 1] = green;
+        colours[3 * pixel + 2] = blue;
+    }
+}
+
+/// The three bytes of a pixel with this word: those of its record's class, or black.
+#[inline]
+fn colour_of(word: u64, classes: &[u8]) -> [u8; 3]
+    requires { NamesOne (length classes.now) word }
+    ensures { (b : List ℕ) → result ≡ word_colour b classes.now Class word }
 {
     if word == EMPTY {
         return [0; 3];
     }
-    let record = (word % (1 << 32)) as u32;
-    palette(class_of(survey.point_bytes(record)))
-}
-
-/// The class in a record of format 0: the lower five bits of its byte 15.
-fn class_of(rec: &[u8]) -> u8
-    requires { 16 ≤ length rec.now }
-    ensures { result ≡ slice_index rec.now 15 % 32 }
-{
-    rec[15] % 32
+    palette(classes[(word % (1 << 32)) as usize])
 }
 
 /// Red, green and blue of a class.
+#[inline]
 fn palette(class: u8) -> [u8; 3]
     ensures { result ≡ class_colour class }
 {

@@ -1,6 +1,6 @@
-ghost use Rattle.std.specs.Prelude.{◌≡◌, ◌*◌, ◌+◌, ◌<◌, ◌≤◌, ◌^◌, ◌-◌, IfOk, IfSome, OnOk, length, replicate, []};
+ghost use Rattle.std.specs.Prelude.{◌≡◌, ℕ, ◌*◌, ◌+◌, ◌<◌, ◌≤◌, ◌^◌, ◌-◌, IfOk, IfSome, List, OnOk, length, replicate};
+ghost use Rattle.plain_picture.specs.Passing.{EveryPasses};
 ghost use Rattle.plain_picture.specs.Plotted.{plotted};
-ghost use Rattle.view_meaning.specs.Classes.{classes};
 ghost use Rattle.view_meaning.specs.Frame.{IsFrame, NamesNearest};
 ghost use Rattle.view_meaning.specs.Picture.{by_class};
 ghost use Rattle.view_meaning.specs.Survey.{record_count};
@@ -17,10 +17,11 @@ pub(crate) const EMPTY: u64 = u64::MAX;
 
 /// One word for each pixel, row by row from the top left: the depth of the nearest record above
 /// its number, so that the least word is the nearest record and, at equal depths, the lower number
-/// (the packed depth of Schütz et al. 2021), or all ones where no record falls.
+/// (the packed depth of Schütz et al. 2021), or all ones where no record falls. The words are
+/// those under any classes that let every record pass.
 pub fn nearest_words(alloc: Global, survey: &Survey, camera: &Camera) -> Result<Words, OutOfMemory>
-    ensures words { IfOk result (λ words. IsFrame survey.now (classes survey.now []) (by_class camera.now) words.items) }
-    ensures nearest { IfOk result (λ words. NamesNearest survey.now (classes survey.now []) (by_class camera.now) words.items) }
+    ensures words { IfOk result (λ words. (cs : List ℕ) → EveryPasses survey.now cs (by_class camera.now) → IsFrame survey.now cs (by_class camera.now) words.items) }
+    ensures nearest { IfOk result (λ words. (cs : List ℕ) → EveryPasses survey.now cs (by_class camera.now) → NamesNearest survey.now cs (by_class camera.now) words.items) }
     // So a record's number fits the lower half of a word, and a depth the upper.
     ensures few { OnOk result (record_count survey.now ≤ 53687091) }
     ensures shallow { camera.now.far ≤ 2 ^ 32 - 2 }
@@ -35,8 +36,7 @@ pub fn nearest_words(alloc: Global, survey: &Survey, camera: &Camera) -> Result<
 fn plot_all(words: &mut [u64], survey: &Survey, camera: &Camera)
     requires empty { words.old ≡ replicate (camera.now.width * camera.now.height) (2 ^ 64 - 1) }
     requires deepest { camera.now.far ≤ 2 ^ 32 - 2 }
-    ensures words { IsFrame survey.now (classes survey.now []) (by_class camera.now) words.new }
-    ensures nearest { NamesNearest survey.now (classes survey.now []) (by_class camera.now) words.new }
+    ensures words { (cs : List ℕ) → EveryPasses survey.now cs (by_class camera.now) → IsFrame survey.now cs (by_class camera.now) words.new }
     ensures few { record_count survey.now ≤ 53687091 }
 {
     for number in 0..survey.records() {

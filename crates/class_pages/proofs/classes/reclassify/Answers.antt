@@ -1,10 +1,13 @@
 use Rattle.std.proofs.Common.{ℕ, List, Bool, true, false, ◌≤◌, arith, subst, sym, ap, ◌≡◌, ◌∙◌, ◌+◌, get_or, map, length}
-use Rattle.view_meaning.specs.Survey.{point_of, record_count}
+use Rattle.view_meaning.specs.Survey.{point_of, record_count, format_of}
 use Rattle.view_meaning.specs.Classes.{Edit, class_after}
 use Rattle.class_pages.specs.Changed.{after_edit}
 use mir.Val.{bool_byte}
 use Rattle.std.specs.List.{range_with_len}
-use Rattle.class_pages.proofs.Steps.{IsMadeBelow, count_below, made_nothing, made_more, made_all, counted_more, changed_counted, point_read, after_edit-classes}
+use Rattle.class_pages.proofs.Steps.{IsMadeBelow, count_below, made_nothing, made_more, made_all, counted_more, changed_counted, after_edit-classes}
+use Rattle.class_pages.proofs.Fitting.{after_edit-fits}
+use Rattle.class_pages.specs.Fitting.{EachFits}
+use Rattle.view_meaning.proofs.Reading.{point-from_part}
 use Rattle.class_pages.proofs.classes.reclassify.Goals as goal
 
 at_most_one : (count i step : ℕ) (b : Bool) → step ≡ bool_byte b → count ≤ i → count + step ≤ i + 1
@@ -24,10 +27,10 @@ loop-i-preserved c =
     let was : get_or c.loop-i.list c.loop-i.i 0 ≡ get_or c.args.list.now c.loop-i.i 0 = c.loop-i.invariant.made.left c.loop-i.i (omega arith) in
     let is : c.class_after-after.result ≡ class_after (point_of b c.loop-i.i) (get_or c.args.list.now c.loop-i.i 0) c.args.edit.now =
     c.class_after-after.ensures ∙ ap (λ (k : ℕ). class_after c.xyz.result k c.args.edit.now) was
-    ∙ ap (λ p. class_after p (get_or c.args.list.now c.loop-i.i 0) c.args.edit.now) (point_read b c.loop-i.i _ c.xyz.result c.point_bytes.ensures.least c.point_bytes.ensures.bytes c.xyz.ensures) in
+    ∙ ap (λ p. class_after p (get_or c.args.list.now c.loop-i.i 0) c.args.edit.now) (point-from_part b c.loop-i.i _ c.xyz.result c.point_bytes.ensures.least c.point_bytes.ensures.bytes c.xyz.ensures) in
     record {
       made = made_more c.loop-i.i (c.loop-i.i + 1) (λ k. class_after (point_of c.args.survey.now k) (get_or c.args.list.now k 0) c.args.edit.now) c.args.list.now c.loop-i.list c.class_after-after.result (omega arith)
-          (omega (arith, c.requires, c.records-i-end.ensures.count, c.loop-i-test.true)) is c.loop-i.invariant.made;
+          (omega (arith, c.requires.records, c.records-i-end.ensures.count, c.loop-i-test.true)) is c.loop-i.invariant.made;
       count = counted_more c.loop-i.i (c.loop-i.i + 1) (λ k. class_after (point_of c.args.survey.now k) (get_or c.args.list.now k 0) c.args.edit.now) c.args.list.now c.loop-i.count c.from-count.result c.class_after-after.result (get_or c.loop-i.list c.loop-i.i 0)
           (omega arith) was is c.from-count.ensures c.loop-i.invariant.count;
       small = at_most_one c.loop-i.count c.loop-i.i c.from-count.result _ c.from-count.ensures c.loop-i.invariant.small;
@@ -40,15 +43,21 @@ edited_is b old new e n last size h =
 
 pub returns-clause-classes : goal.returns-clause-classes
 returns-clause-classes c =
-    edited_is c.args.survey.now c.args.list.now c.loop-i.list c.args.edit.now c.loop-i.i (omega (arith, c.records-i-end.ensures.count)) c.requires c.loop-i.invariant.made
+    edited_is c.args.survey.now c.args.list.now c.loop-i.list c.args.edit.now c.loop-i.i (omega (arith, c.records-i-end.ensures.count)) c.requires.records c.loop-i.invariant.made
 
 pub returns-clause-edits : goal.returns-clause-edits
 returns-clause-edits c = λ edits is.
-    edited_is c.args.survey.now c.args.list.now c.loop-i.list c.args.edit.now c.loop-i.i (omega (arith, c.records-i-end.ensures.count)) c.requires c.loop-i.invariant.made
+    edited_is c.args.survey.now c.args.list.now c.loop-i.list c.args.edit.now c.loop-i.i (omega (arith, c.records-i-end.ensures.count)) c.requires.records c.loop-i.invariant.made
     ∙ ap (λ (l : List ℕ). after_edit c.args.survey.now l c.args.edit.now) is ∙ after_edit-classes c.args.survey.now edits c.args.edit.now
 
 pub returns-clause-count : goal.returns-clause-count
 returns-clause-count c =
     let last : c.loop-i.i ≡ record_count c.args.survey.now = omega (arith, c.records-i-end.ensures.count) in
     c.loop-i.invariant.count
-    ∙ changed_counted c.args.survey.now c.args.list.now c.loop-i.list c.args.edit.now c.loop-i.i (c.requires ∙ sym last) c.loop-i.invariant.made
+    ∙ changed_counted c.args.survey.now c.args.list.now c.loop-i.list c.args.edit.now c.loop-i.i (c.requires.records ∙ sym last) c.loop-i.invariant.made
+
+pub returns-clause-top : goal.returns-clause-top
+returns-clause-top c = λ fits.
+    subst (λ (l : List ℕ). EachFits (format_of c.args.survey.now) l)
+    (sym (edited_is c.args.survey.now c.args.list.now c.loop-i.list c.args.edit.now c.loop-i.i (omega (arith, c.records-i-end.ensures.count)) c.requires.records c.loop-i.invariant.made))
+    (after_edit-fits c.args.survey.now c.args.list.now c.args.edit.now (format_of c.args.survey.now) c.requires.room fits)

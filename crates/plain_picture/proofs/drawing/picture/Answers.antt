@@ -1,28 +1,53 @@
-use Rattle.std.proofs.Common.{[], ◌<◌, ◌∙◌, ◌++◌, List, ℕ, length, get_or, ap, sym, subst, arith, append_assoc}
+use Rattle.std.proofs.Common.{◌≡◌, ◌<◌, ◌∙◌, ◌++◌, List, ℕ, length, get_or, ap, sym, subst, arith, append_assoc}
 use Rattle.std.specs.List.{flat_map}
+use Rattle.std.specs.Arc.{arc_value}
 use Rattle.view_base.specs.declared.colour.Colouring.TheVariants.{Class}
-use Rattle.view_meaning.specs.Classes.{classes}
-use Rattle.view_meaning.specs.Picture.{by_class, ppm_header}
+use Rattle.view_meaning.specs.Survey.{record_count, format_of}
+use Rattle.view_meaning.specs.Camera.{Lens}
+use Rattle.view_meaning.specs.Picture.{View, by_class, picture, ppm_header}
 use Rattle.view_meaning.specs.Frame.{word_colour}
-use Rattle.plain_picture.specs.Names.{NamesOne}
-use Rattle.plain_picture.proofs.Plain.{frame_names_records}
 use Rattle.view_meaning.proofs.Colours.{picture-words}
+use Rattle.class_pages.specs.Fitting.{EachFits}
+use Rattle.plain_picture.specs.Names.{NamesOne}
+use Rattle.plain_picture.specs.Passing.{EveryPasses}
+use Rattle.plain_picture.proofs.Lengths.{length-picture}
+use Rattle.plain_picture.proofs.Plain.{every_passes, frame_names_records}
 use Rattle.plain_picture.proofs.drawing.picture.Goals as goal
 
+-- every record passes in the view of a survey's own camera
+every : (b survey cs : List ℕ) (lens : Lens) → survey ≡ b → length cs ≡ record_count b → EachFits (format_of b) cs → EveryPasses survey cs (by_class lens)
+every b survey cs lens same size fits = subst (λ (l : List ℕ). EveryPasses l cs (by_class lens)) (sym same) (every_passes b cs lens size fits)
+
 pub append_colours-requires-clause-names : goal.append_colours-requires-clause-names
-append_colours-requires-clause-names c =
-    subst (λ (l : List ℕ). (k d : ℕ) → k < length l → NamesOne c.args.survey.now (get_or l k d)) (sym c.as_slice.ensures)
-    (frame_names_records c.args.survey.now (classes c.args.survey.now []) (by_class c.args.camera.now) c.in_ok-words.words.items (omega (arith, c.width.ensures)) c.in_ok-words.ensures.words c.in_ok-words.ensures.nearest)
+append_colours-requires-clause-names g c =
+    let b = c.deref.result.now in
+    let lens = c.view.inside.camera in
+    let cs = c.args.classes.now in
+    let passing : EveryPasses b cs (by_class lens) = every (arc_value c.args.scene.now.survey) b cs lens c.deref.ensures c.requires.records c.requires.top in
+    let count : record_count b ≡ length c.as_slice-2.result.now = ap record_count c.deref.ensures ∙ sym c.requires.records ∙ ap length (sym c.as_slice-2.ensures) in
+    subst (λ (l : List ℕ). (k d : ℕ) → k < length l → NamesOne (length c.as_slice-2.result.now) (get_or l k d)) (sym c.as_slice.ensures)
+    (subst (λ (n : ℕ). (k d : ℕ) → k < length c.in_ok-words.words.items → NamesOne n (get_or c.in_ok-words.words.items k d)) count
+    (frame_names_records b cs (by_class lens) c.in_ok-words.words.items (omega (arith, c.width.ensures)) (c.in_ok-words.ensures.words cs passing) (c.in_ok-words.ensures.nearest cs passing)))
 
 pub returns-clause-drawn : goal.returns-clause-drawn
-returns-clause-drawn c =
-    let b = c.args.survey.now in
-    let colours = λ (l : List ℕ). flat_map (word_colour b (classes b []) Class) l in
-    c.append_colours.ensures
+returns-clause-drawn g c =
+    let b = c.deref.result.now in
+    let lens = c.view.inside.camera in
+    let cs = c.args.classes.now in
+    let words = c.in_ok-words.words.items in
+    let colours = λ (l : List ℕ). flat_map (word_colour b cs Class) l in
+    let passing : EveryPasses b cs (by_class lens) = every (arc_value c.args.scene.now.survey) b cs lens c.deref.ensures c.requires.records c.requires.top in
+    let view_is : by_class lens ≡ c.args.view.now = ap (λ (v : View). by_class v.camera) c.view.view_is ∙ sym c.requires.by_class in
+    c.append_colours.ensures b
+    ∙ ap (λ (l : List ℕ). c.ppm_header.new.out.items ++ flat_map (word_colour b l Class) c.as_slice.result.now) c.as_slice-2.ensures
     ∙ ap (λ (l : List ℕ). c.ppm_header.new.out.items ++ colours l) c.as_slice.ensures
-    ∙ ap (λ (l : List ℕ). l ++ colours c.in_ok-words.words.items) (c.ppm_header.ensures.appended ∙ ap (λ (l : List ℕ). l ++ ppm_header c.width.result c.height.result) c.in_ok-reserve.ensures.same)
-    ∙ append_assoc c.args.out.now.items (ppm_header c.width.result c.height.result) (colours c.in_ok-words.words.items)
-    ∙ ap (λ (k : ℕ). c.args.out.now.items ++ (ppm_header k c.height.result ++ colours c.in_ok-words.words.items)) c.width.ensures.value
-    ∙ ap (λ (k : ℕ). c.args.out.now.items ++ (ppm_header c.args.camera.now.width k ++ colours c.in_ok-words.words.items)) c.height.ensures.value
+    ∙ ap (λ (l : List ℕ). l ++ colours words) (c.ppm_header.ensures.appended ∙ ap (λ (l : List ℕ). l ++ ppm_header c.width.result c.height.result) c.in_ok-reserve.ensures.same)
+    ∙ append_assoc c.args.out.now.items (ppm_header c.width.result c.height.result) (colours words)
+    ∙ ap (λ (k : ℕ). c.args.out.now.items ++ (ppm_header k c.height.result ++ colours words)) c.width.ensures.value
+    ∙ ap (λ (k : ℕ). c.args.out.now.items ++ (ppm_header lens.width k ++ colours words)) c.height.ensures.value
     ∙ ap (λ (l : List ℕ). c.args.out.now.items ++ l)
-    (picture-words b (classes b []) (by_class c.args.camera.now) c.in_ok-words.words.items (omega (arith, c.in_ok-words.ensures.shallow)) (omega (arith, c.in_ok-words.ensures.few)) c.in_ok-words.ensures.words)
+    (picture-words b cs (by_class lens) words (omega (arith, c.in_ok-words.ensures.shallow)) (omega (arith, c.in_ok-words.ensures.few)) (c.in_ok-words.ensures.words cs passing)
+    ∙ ap (λ (l : List ℕ). picture l cs (by_class lens)) c.deref.ensures ∙ ap (λ (v : View). picture (arc_value c.args.scene.now.survey) cs v) view_is)
+
+pub returns-clause-size : goal.returns-clause-size
+returns-clause-size g c = length-picture (arc_value c.args.scene.now.survey) c.args.classes.now c.args.view.now
