@@ -2,6 +2,7 @@
 use Rattle.std.proofs.Common.{◌≡◌, ℕ, zero, suc, ◌+◌, ◌-◌, ◌*◌, ◌<◌, ◌≤◌, List, [], ◌∷◌, ◌++◌, length, take, drop, get_or, set, arith, refl, sym, ap, ◌∙◌, append-nil}
 use Rattle.std.proofs.lemmas.List.{append_assoc, length-append, length-take-le, length-drop, length-set, set-append_left, set-append_right, get_or-append_right, get_or_append_left}
 use Rattle.std.proofs.lemmas.Grind.{flat_map-append}
+use Rattle.std.proofs.lemmas.Bool.Decides.{nat_tests}
 use Rattle.std.proofs.Math.Seq.{take-add}
 use Rattle.std.proofs.Math.Nat.{mul-le-mul_right}
 use Rattle.std.specs.List.{flat_map, range_with_len}
@@ -9,9 +10,13 @@ use Rattle.view_ends.proofs.Taken.{drop-add}
 use Rattle.view_meaning.proofs.Nearest.{range_more}
 use Rattle.view_meaning.proofs.Rows.{range-append}
 use Rattle.view_meaning.specs.Classes.{with_class}
-use Rattle.view_meaning.specs.Saved.{record_bytes, with_class_byte, saved_record}
+use Rattle.view_meaning.specs.Saved.{record_bytes, with_class_byte, saved_record, saved}
 use Rattle.view_meaning.specs.Survey.{points_at, format_of, record_length, record_at, record_count, points_end, class_place}
 use Rattle.las_write.specs.Points.{HasPoints, saved_records}
+
+-- every record has its class byte
+pub place_within : (format size : ℕ) → 20 ≤ size → class_place format < size
+place_within format size least = grind (arith, nat_tests)
 
 -- so many records from one on, as read
 abbrev pub read_records : List ℕ → ℕ → ℕ → List ℕ
@@ -36,7 +41,7 @@ length-saved_record b cs i whole inside =
     length-set (record_bytes b i) (class_place (format_of b)) _ ∙ length-record_bytes b i whole inside
 
 pub length-saved_records : (b cs : List ℕ) (first count : ℕ) → points_end b ≤ length b → first + count ≤ record_count b → length (saved_records b cs first count) ≡ count * record_length b
-length-saved_records b cs first zero whole inside = refl
+length-saved_records b cs first zero whole inside = let none : zero * record_length b ≡ 0 = omega arith in sym none
 length-saved_records b cs first (suc count) whole inside =
     let next : suc count * record_length b ≡ record_length b + count * record_length b = grind arith in
     length-append (saved_record b cs first) (saved_records b cs (first + 1) count)
@@ -47,11 +52,16 @@ pub saved_records-append : (b cs : List ℕ) (first m n : ℕ) → saved_records
 saved_records-append b cs first m n =
     ap (flat_map (saved_record b cs)) (range-append first m n) ∙ flat_map-append (saved_record b cs) (range_with_len first m) (range_with_len (first + m) n)
 
+-- a saved file is what stands before the points, all records with their classes, and what stands after them
+pub saved-parts : (b cs : List ℕ) → saved b cs ≡ take (points_at b) b ++ (saved_records b cs 0 (record_count b) ++ drop (points_end b) b)
+unfolding saved
+saved-parts b cs = append_assoc (take (points_at b) b) (saved_records b cs 0 (record_count b)) (drop (points_end b) b)
+
 -- one more record at the end of a run
 pub saved_records-more : (b cs : List ℕ) (first count : ℕ) → saved_records b cs first (suc count) ≡ saved_records b cs first count ++ saved_record b cs (first + count)
 saved_records-more b cs first count =
     ap (flat_map (saved_record b cs)) (range_more first count (first + count) refl)
-    ∙ flat_map-append (saved_record b cs) (range_with_len first count) (first + count ∷ [])
+    ∙ flat_map-append (saved_record b cs) (range_with_len first count) ((first + count) ∷ [])
     ∙ ap (λ (l : List ℕ). saved_records b cs first count ++ l) (append-nil (saved_record b cs (first + count)))
 
 -- a run as read is its first record and the others
@@ -76,7 +86,7 @@ half_saved-none b cs first count =
 
 pub half_saved-all : (b cs : List ℕ) (first count : ℕ) → half_saved b cs first count count ≡ saved_records b cs first count
 half_saved-all b cs first count =
-    let none : (count - count) * record_length b ≡ 0 = let e : count - count ≡ 0 = omega arith in ap (λ (k : ℕ). k * record_length b) e in
+    let none : (count - count) * record_length b ≡ 0 = let e : count - count ≡ 0 = omega arith in let f : 0 * record_length b ≡ 0 = omega arith in ap (λ (k : ℕ). k * record_length b) e ∙ f in
     ap (λ (k : ℕ). saved_records b cs first count ++ take k (drop (record_at b (first + count)) b)) none ∙ append-nil (saved_records b cs first count)
 
 -- the two parts, and the record between them

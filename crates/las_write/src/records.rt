@@ -34,6 +34,7 @@ pub(crate) fn copy_records(
 fn set_classes(piece: &mut [u8], survey: &Survey, classes: &Classes, first: u32, count: u32)
     requires there { HasPoints survey.now }
     requires within { first + count ≤ record_count survey.now }
+    requires size { length piece.old ≡ count * record_length survey.now }
     requires read { piece.old ≡ take (count * record_length survey.now) (drop (record_at survey.now first) survey.now) }
     requires records { length classes.now ≡ record_count survey.now }
     requires room { (i : ℕ) → i < record_count survey.now → slice_index classes.now i ≤ top_class (format_of survey.now) }
