@@ -1,5 +1,5 @@
 -- What a sink got of a file that is given in parts.
-use Rattle.std.proofs.Common.{◌≡◌, ℕ, ◌+◌, ◌-◌, ◌<◌, ◌≤◌, List, ◌++◌, length, take, drop, Option, Some, None, arith, refl, sym, ap, ◌∙◌, subst}
+use Rattle.std.proofs.Common.{◌≡◌, ℕ, ◌+◌, ◌-◌, ◌<◌, ◌≤◌, List, ◌++◌, length, take, drop, Option, Some, None, Result, Ok, Err, OnErr, arith, refl, sym, ap, ◌∙◌, subst}
 use Rattle.std.proofs.lemmas.List.{append_assoc, length-append, take-append-le}
 use Rattle.std.proofs.Math.Seq.{take-append-add}
 use Rattle.view_ends.specs.Ends.{Gains, GainsPart}
@@ -8,6 +8,11 @@ use Rattle.view_meaning.specs.Saved.{saved}
 use Rattle.view_meaning.specs.Survey.{points_at, points_end, record_count}
 use Rattle.las_write.specs.Points.{saved_records}
 use Rattle.las_write.proofs.Runs.{saved_records-append, saved-parts}
+
+-- what holds, holds where there is an error
+pub on_err : {T E P : Type 0} (r : Result T E) → P → OnErr r P
+on_err (Ok x) holds = tt
+on_err (Err e) holds = holds
 
 -- a front of the first part is a front of the whole
 pub part_of_first : (old new : Option (List ℕ)) (xs ys : List ℕ) → GainsPart old xs new → GainsPart old (xs ++ ys) new

@@ -74,6 +74,24 @@ read_records-more b first count =
     ∙ ap (λ (l : List ℕ). take (record_length b) (drop (record_at b first) b) ++ take (count * record_length b) l)
         (drop-add (record_at b first) (record_length b) b ∙ ap (λ (k : ℕ). drop k b) there)
 
+-- a run of the file ends where the points end, or before
+pub run_within : (b : List ℕ) (first count : ℕ) → points_end b ≤ length b → first + count ≤ record_count b → points_at b + first * record_length b + count * record_length b ≤ length b
+unfolding points_end
+run_within b first count whole inside =
+    let more : (first + count) * record_length b ≤ record_count b * record_length b = mul-le-mul_right (record_length b) inside in
+    let sum : (first + count) * record_length b ≡ first * record_length b + count * record_length b = grind arith in
+    omega (arith, whole, more, sum)
+
+-- a run that was copied out of the file's bytes
+pub read_records-copied : (b bytes : List ℕ) (start first size count long : ℕ) → bytes ≡ b → start ≡ points_at b → size ≡ record_length b → long ≡ count * record_length b
+    → take (start + first * size + long - (start + first * size)) (drop (start + first * size) bytes) ≡ read_records b first count
+unfolding record_at
+read_records-copied b bytes start first size count long all begin same whole =
+    let n : start + first * size + long - (start + first * size) ≡ count * record_length b = omega (arith, whole) in
+    let here : start + first * size ≡ points_at b + first * record_length b = ap (λ (k : ℕ). k + first * size) begin ∙ ap (λ (k : ℕ). points_at b + first * k) same in
+    ap (λ (k : ℕ). take k (drop (start + first * size) bytes)) n ∙ ap (λ (k : ℕ). take (count * record_length b) (drop k bytes)) here
+    ∙ ap (λ (l : List ℕ). take (count * record_length b) (drop (points_at b + first * record_length b) l)) all
+
 -- a run whose first `done` records have their classes, and whose others are as read
 abbrev pub half_saved : List ℕ → List ℕ → ℕ → ℕ → ℕ → List ℕ
 half_saved b cs first count done = saved_records b cs first done ++ read_records b (first + done) (count - done)

@@ -24,9 +24,10 @@ pub(crate) fn copy_records(
     requires room { (i : ℕ) → i < record_count survey.now → slice_index classes.now i ≤ top_class (format_of survey.now) }
     ensures { piece.new ≡ saved_records survey.now classes.now first count }
 {
+    let bytes = survey.bytes();
     let header = survey.header();
     let at = header.points_at as usize + first as usize * usize::from(header.length);
-    piece.copy_from_slice(&survey.bytes()[at..at + piece.len()]);
+    piece.copy_from_slice(&bytes[at..at + piece.len()]);
     set_classes(piece, survey, classes, first, count);
 }
 
