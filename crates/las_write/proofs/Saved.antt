@@ -2,14 +2,17 @@
 use Rattle.std.proofs.Common.{◌≡◌, ◌≢◌, ℕ, zero, suc, ◌+◌, ◌-◌, ◌*◌, ◌/◌, ◌%◌, ◌<◌, ◌≤◌, List, [], ◌∷◌, ◌++◌, length, take, drop, get_or, set, inl, inr, arith, refl, sym, ap, ◌∙◌, take-append-drop}
 use Rattle.std.proofs.lemmas.Bool.{cases_lt, cases_eq}
 use Rattle.std.proofs.lemmas.List.{ext_get_or, length-append, length-take-le, length-drop, get_or-append_right, get_or_append_left, get_or-take, get_or-drop, get_or-set_same, get_or-set_other, set-get_or}
+use Rattle.std.proofs.lemmas.Bool.Decides.{nat_tests}
 use Rattle.std.proofs.lemmas.List.FromFn.{get_or-map-range_with_len}
 use Rattle.std.proofs.Math.Nat.{mul-le-mul_right}
-use Rattle.view_meaning.proofs.Rows.{place_below}
+use Rattle.std.specs.List.{flat_map, range_with_len}
+use Rattle.view_ends.proofs.Taken.{drop-add}
+use Rattle.view_meaning.proofs.Rows.{place_below, flat_map-same}
 use Rattle.view_meaning.specs.Classes.{Edit, class_of, with_class, class_at, classes}
 use Rattle.view_meaning.specs.Saved.{record_bytes, saved_record, saved}
 use Rattle.view_meaning.specs.Survey.{u8_at, points_at, points_end, format_of, record_length, record_at, record_count, class_place, class_byte}
 use Rattle.las_write.specs.Points.{saved_records}
-use Rattle.las_write.proofs.Runs.{length-saved_record, length-saved_records, length-record_bytes, saved_records-append, saved-parts}
+use Rattle.las_write.proofs.Runs.{length-saved_record, length-saved_records, length-record_bytes, saved_records-append, saved-parts, read_records, read_records-more}
 
 -- the points end where their last record ends
 points_between : (b : List ℕ) → points_end b ≡ points_at b + record_count b * record_length b
@@ -108,3 +111,41 @@ saved-other_byte b cs i j whole below within other =
     saved-in_record b cs i j whole below within
     ∙ get_or-set_other (record_bytes b i) (class_place (format_of b)) j (with_class (format_of b) (get_or (record_bytes b i) (class_place (format_of b)) 0) (get_or cs i 0)) 0 other
     ∙ read_in_record b i j within
+
+-- a record with the class that it has in the file is as read
+unchanged_byte : (format byte : ℕ) → with_class format byte (class_of format byte) ≡ byte
+unchanged_byte format byte = grind (arith, nat_tests)
+
+unchanged_class : (b : List ℕ) (i : ℕ) → i < record_count b → get_or (classes b []) i 0 ≡ class_of (format_of b) (class_byte b i)
+unfolding classes class_at
+unchanged_class b i below = get_or-map-range_with_len (class_at b []) 0 (record_count b) i i 0 below (omega arith)
+
+saved_record-unchanged : (b : List ℕ) (i : ℕ) → class_place (format_of b) < record_length b → i < record_count b → saved_record b (classes b []) i ≡ record_bytes b i
+unfolding saved_record class_byte u8_at
+saved_record-unchanged b i room below =
+    let place = class_place (format_of b) in
+    let byte : get_or (record_bytes b i) place 0 ≡ get_or b (record_at b i + place) 0 = read_in_record b i place room in
+    let class : get_or (classes b []) i 0 ≡ class_of (format_of b) (get_or (record_bytes b i) place 0) = unchanged_class b i below ∙ ap (class_of (format_of b)) (sym byte) in
+    ap (λ (k : ℕ). set (record_bytes b i) place (with_class (format_of b) (get_or (record_bytes b i) place 0) k)) class
+    ∙ ap (set (record_bytes b i) place) (unchanged_byte (format_of b) (get_or (record_bytes b i) place 0))
+    ∙ set-get_or (record_bytes b i) place 0
+
+-- records as read, one after another
+read_records-run : (b : List ℕ) (first count : ℕ) → flat_map (record_bytes b) (range_with_len first count) ≡ read_records b first count
+read_records-run b first zero = let none : zero * record_length b ≡ 0 = omega arith in sym (ap (λ (k : ℕ). take k (drop (record_at b first) b)) none)
+read_records-run b first (suc count) = ap (λ (l : List ℕ). record_bytes b first ++ l) (read_records-run b (first + 1) count) ∙ sym (read_records-more b first count)
+
+-- a file saved with the classes that it has is the file that was read
+pub saved_unchanged : (b : List ℕ) → class_place (format_of b) < record_length b → saved b (classes b []) ≡ b
+unfolding points_end record_at
+saved_unchanged b room =
+    let n = record_count b in
+    let start : points_at b + 0 * record_length b ≡ points_at b = omega arith in
+    let runs : saved_records b (classes b []) 0 n ≡ take (n * record_length b) (drop (points_at b) b) =
+    flat_map-same (saved_record b (classes b [])) (record_bytes b) 0 n (λ k low below. saved_record-unchanged b k room (omega (arith, below)))
+    ∙ read_records-run b 0 n ∙ ap (λ (k : ℕ). take (n * record_length b) (drop k b)) start in
+    saved-parts b (classes b [])
+    ∙ ap (λ (l : List ℕ). take (points_at b) b ++ (l ++ drop (points_end b) b)) runs
+    ∙ ap (λ (l : List ℕ). take (points_at b) b ++ (take (n * record_length b) (drop (points_at b) b) ++ l)) (sym (drop-add (points_at b) (n * record_length b) b))
+    ∙ ap (λ (l : List ℕ). take (points_at b) b ++ l) (take-append-drop (n * record_length b) (drop (points_at b) b))
+    ∙ take-append-drop (points_at b) b
