@@ -1,4 +1,4 @@
-ghost use Rattle.std.specs.Prelude.{◌≡◌, ℕ, ◌+◌, ◌*◌, ◌≤◌, ◌<◌, length, take, drop, slice_index};
+ghost use Rattle.std.specs.Prelude.{◌≡◌, All, ◌+◌, ◌*◌, ◌≤◌, ◌<◌, length, take, drop, slice_index};
 ghost use Rattle.las_survey.specs.Header.{IsHeaderOf};
 ghost use Rattle.las_write.specs.Points.{HasPoints, saved_records};
 ghost use Rattle.view_meaning.specs.Classes.{top_class};
@@ -21,7 +21,7 @@ pub(crate) fn copy_records(
     requires within { first + count ≤ record_count survey.now }
     requires size { length piece.old ≡ count * record_length survey.now }
     requires records { length classes.now ≡ record_count survey.now }
-    requires room { (i : ℕ) → i < record_count survey.now → slice_index classes.now i ≤ top_class (format_of survey.now) }
+    requires room { All (λ class. class ≤ top_class (format_of survey.now)) classes.now }
     ensures { piece.new ≡ saved_records survey.now classes.now first count }
 {
     let bytes = survey.bytes();
@@ -38,7 +38,7 @@ fn set_classes(piece: &mut [u8], survey: &Survey, classes: &Classes, first: u32,
     requires size { length piece.old ≡ count * record_length survey.now }
     requires read { piece.old ≡ take (count * record_length survey.now) (drop (record_at survey.now first) survey.now) }
     requires records { length classes.now ≡ record_count survey.now }
-    requires room { (i : ℕ) → i < record_count survey.now → slice_index classes.now i ≤ top_class (format_of survey.now) }
+    requires room { All (λ class. class ≤ top_class (format_of survey.now)) classes.now }
     ensures { piece.new ≡ saved_records survey.now classes.now first count }
 {
     let format = survey.header().format;

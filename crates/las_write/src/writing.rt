@@ -1,4 +1,4 @@
-ghost use Rattle.std.specs.Prelude.{◌≡◌, ℕ, ◌≤◌, ◌<◌, OnOk, OnErr, IsErrOf, length, take, drop, slice_index};
+ghost use Rattle.std.specs.Prelude.{◌≡◌, All, ◌≤◌, ◌<◌, OnOk, OnErr, IsErrOf, length, take, drop, slice_index};
 ghost use Rattle.las_write.specs.Points.{HasPoints, saved_records};
 ghost use Rattle.view_ends.specs.Ends.{Rose, Gains, GainsPart};
 ghost use Rattle.view_meaning.specs.Classes.{top_class};
@@ -22,7 +22,7 @@ pub fn write_survey<K: Sink>(
     sink: &mut K,
 ) -> Result<(), EndFault>
     requires records { length classes.now ≡ record_count survey.now }
-    requires room { (i : ℕ) → i < record_count survey.now → slice_index classes.now i ≤ top_class (format_of survey.now) }
+    requires room { All (λ class. class ≤ top_class (format_of survey.now)) classes.now }
     ensures given { OnOk result (Gains (K.got sink.old) (saved survey.now classes.now) (K.got sink.new)) }
     ensures part { OnErr result (GainsPart (K.got sink.old) (saved survey.now classes.now) (K.got sink.new)) }
     ensures length { length (saved survey.now classes.now) ≡ length survey.now }
@@ -60,7 +60,7 @@ fn give_records<K: Sink>(
 ) -> Result<(), EndFault>
     requires there { HasPoints survey.now }
     requires records { length classes.now ≡ record_count survey.now }
-    requires room { (i : ℕ) → i < record_count survey.now → slice_index classes.now i ≤ top_class (format_of survey.now) }
+    requires room { All (λ class. class ≤ top_class (format_of survey.now)) classes.now }
     ensures given { OnOk result (Gains (K.got sink.old) (saved_records survey.now classes.now 0 (record_count survey.now)) (K.got sink.new)) }
     ensures part { OnErr result (GainsPart (K.got sink.old) (saved_records survey.now classes.now 0 (record_count survey.now)) (K.got sink.new)) }
     ensures calm { OnOk result (K.faults sink.new ≡ K.faults sink.old) }
