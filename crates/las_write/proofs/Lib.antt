@@ -1,0 +1,4 @@
+pub mod Fronts
+pub mod Plain
+pub mod Runs
+pub mod Saved

@@ -1,0 +1,10 @@
+//! Writes a survey with other classes: the bytes of the file as they were read, and in each record
+//! the class bits of its class.
+#![tactic(auto)]
+
+mod records;
+#[cfg(test)]
+mod tests;
+mod writing;
+
+pub use writing::write_survey;

@@ -1,0 +1,85 @@
+ghost use Rattle.std.specs.Prelude.{◌≡◌, All, ◌≤◌, ◌<◌, OnOk, OnErr, IsErrOf, length, take, drop, slice_index};
+ghost use Rattle.las_write.specs.Points.{HasPoints, saved_records};
+ghost use Rattle.view_ends.specs.Ends.{Rose, Gains, GainsPart};
+ghost use Rattle.view_meaning.specs.Classes.{top_class};
+ghost use Rattle.view_meaning.specs.Saved.{saved};
+ghost use Rattle.view_meaning.specs.Survey.{format_of, points_at, points_end, record_count};
+
+use crate::records::copy_records;
+use class_pages::Classes;
+use las_survey::Survey;
+use view_ends::{EndFault, Sink, give_all};
+
+/// How many bytes of records are given at once. A record is shorter.
+const ROOM: usize = 1 << 16;
+
+/// Gives a survey's file to a sink, with the class bits of each record set to its class and every
+/// other bit as read (LAS 1.4 R15, classification). After an `Err` the sink got only some front of
+/// it. It takes no memory.
+pub fn write_survey<K: Sink>(
+    survey: &Survey,
+    classes: &Classes,
+    sink: &mut K,
+) -> Result<(), EndFault>
+    requires records { length classes.now ≡ record_count survey.now }
+    requires room { All (λ class. class ≤ top_class (format_of survey.now)) classes.now }
+    ensures given { OnOk result (Gains (K.got sink.old) (saved survey.now classes.now) (K.got sink.new)) }
+    ensures part { OnErr result (GainsPart (K.got sink.old) (saved survey.now classes.now) (K.got sink.new)) }
+    ensures length { length (saved survey.now classes.now) ≡ length survey.now }
+    ensures calm { OnOk result (K.faults sink.new ≡ K.faults sink.old) }
+
+    ensures failed { IsErrOf result EndFault.Failed → Rose (K.faults sink.old) (K.faults sink.new) }
+    ensures memory { IsErrOf result EndFault.Memory → K.faults sink.new ≡ K.faults sink.old }
+    ensures later { K.faults sink.old ≤ K.faults sink.new }
+{
+    let (start, end) = points(survey);
+    let bytes = survey.bytes();
+    give_all(sink, &bytes[..start])?;
+    give_records(survey, classes, sink)?;
+    give_all(sink, &bytes[end..])
+}
+
+/// Where a survey's point records begin and where they end, in bytes from the file's start.
+fn points(survey: &Survey) -> (usize, usize)
+    ensures start { result.0 ≡ points_at survey.now }
+    ensures end { result.1 ≡ points_end survey.now }
+    ensures rises { points_at survey.now ≤ points_end survey.now }
+    ensures there { HasPoints survey.now }
+{
+    let header = survey.header();
+    let start = header.points_at as usize;
+    let size = survey.records() as usize * usize::from(header.length);
+    (start, start + size)
+}
+
+/// Gives the point records with their classes, as many at once as there is room for.
+fn give_records<K: Sink>(
+    survey: &Survey,
+    classes: &Classes,
+    sink: &mut K,
+) -> Result<(), EndFault>
+    requires there { HasPoints survey.now }
+    requires records { length classes.now ≡ record_count survey.now }
+    requires room { All (λ class. class ≤ top_class (format_of survey.now)) classes.now }
+    ensures given { OnOk result (Gains (K.got sink.old) (saved_records survey.now classes.now 0 (record_count survey.now)) (K.got sink.new)) }
+    ensures part { OnErr result (GainsPart (K.got sink.old) (saved_records survey.now classes.now 0 (record_count survey.now)) (K.got sink.new)) }
+    ensures calm { OnOk result (K.faults sink.new ≡ K.faults sink.old) }
+
+    ensures failed { IsErrOf result EndFault.Failed → Rose (K.faults sink.old) (K.faults sink.new) }
+    ensures memory { IsErrOf result EndFault.Memory → K.faults sink.new ≡ K.faults sink.old }
+    ensures later { K.faults sink.old ≤ K.faults sink.new }
+{
+    let mut buffer = [0u8; ROOM];
+    let size = usize::from(survey.header().length);
+    let most = (ROOM / size) as u32;
+    let records = survey.records();
+    let mut given = 0;
+    while given < records {
+        let count = most.min(records - given);
+        let piece = &mut buffer[..count as usize * size];
+        copy_records(piece, survey, classes, given, count);
+        give_all(sink, piece)?;
+        given += count;
+    }
+    Ok(())
+}
