@@ -1,0 +1,2 @@
+pub mod ViewWords
+pub mod Reading

@@ -1,4 +1,7 @@
-use class_bits::Filter;
+ghost use Rattle.std.specs.Prelude.{◌≡◌};
+ghost use Rattle.view_meaning.specs.Picture.{by_class};
+
+use class_bits::{ClassSet, Filter};
 use int_camera::Camera;
 use std::marker::Model;
 use view_base::Colouring;
@@ -23,4 +26,20 @@ impl Model for ViewSpec {
     ghost view = { λ v. record { camera = v.camera; colouring = v.colouring; filter = v.filter } };
 
     ghost inverse = { λ v. record { camera = v.camera; colouring = v.colouring; filter = v.filter } };
+}
+
+impl ViewSpec {
+    /// The view of all records by class, withheld ones too, through a camera.
+    pub fn by_class(camera: Camera) -> ViewSpec
+        ensures { result ≡ by_class camera }
+    {
+        ViewSpec {
+            camera,
+            colouring: Colouring::Class,
+            filter: Filter {
+                classes: ClassSet::all(),
+                hide_withheld: false,
+            },
+        }
+    }
 }

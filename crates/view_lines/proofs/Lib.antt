@@ -1,0 +1,2 @@
+pub mod CommandOf
+pub mod Rooms

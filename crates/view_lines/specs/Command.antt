@@ -1,0 +1,67 @@
+-- The commands of a session's lines: `view` and the words of a view, `edit` and the words of an edit, and `save`.
+use Rattle.std.specs.Prelude.{◌≡◌, ℕ, ◌≤◌, List, [], ◌∷◌, codes, Result, Ok, Err, if◌then◌else◌}
+use Rattle.std.specs.Str.{bytes_eq}
+use Rattle.view_base.specs.Text.{words}
+use Rattle.view_meaning.specs.Picture as picture
+use Rattle.view_meaning.specs.Classes as meaning
+use Rattle.view_text.specs.declared.fault.TextFault as text
+use Rattle.view_text.specs.declared.fault.TextFault.TheVariants as unread
+use Rattle.view_text.specs.ViewWords.{view_of}
+use Rattle.edit_ops.specs.declared.fault.EditFault as edit
+use Rattle.edit_ops.specs.declared.fault.EditFault.TheVariants as unfit
+use Rattle.edit_ops.specs.EditLine.{edit_of}
+use Rattle.view_lines.specs.declared.command.Command as command
+use Rattle.view_lines.specs.declared.command.Command.TheVariants.{View, Edit, Save}
+use Rattle.view_lines.specs.declared.refusal.Refusal as refusal
+use Rattle.view_lines.specs.declared.refusal.Refusal.TheVariants.{Line, Limit, ClassRange}
+
+-- the command of a view, or why it is refused: a view that isn't drawn so far is no line of the grammar
+abbrev pub viewed : Result picture.View text.TextFault → Result command.Command refusal.Refusal
+viewed (Ok view) = Ok (View view)
+viewed (Err (unread.Line at)) = Err Line
+viewed (Err unread.NotYet) = Err Line
+viewed (Err (unread.Limit limit)) = Err (Limit limit)
+
+-- the command of an edit, or why it is refused
+abbrev pub edited : Result meaning.Edit edit.EditFault → Result command.Command refusal.Refusal
+edited (Ok e) = Ok (Edit e)
+edited (Err (unfit.Line at)) = Err Line
+edited (Err (unfit.ClassRange class)) = Err ClassRange
+
+-- the command of a line that begins with `save` and goes on with these words: it has no others
+abbrev pub saved : List (List ℕ) → Result command.Command refusal.Refusal
+saved [] = Ok Save
+saved (word ∷ others) = Err Line
+
+-- the command of a line that begins with this word and goes on with these, for a point format
+abbrev pub command_by : List ℕ → List (List ℕ) → List ℕ → ℕ → Result command.Command refusal.Refusal
+command_by word others line format =
+    if bytes_eq word (codes "view") then viewed (view_of others)
+    else if bytes_eq word (codes "edit") then edited (edit_of line format)
+    else if bytes_eq word (codes "save") then saved others
+    else Err Line
+
+-- the command of these words of a line, for a point format
+abbrev pub command_of_words : List (List ℕ) → List ℕ → ℕ → Result command.Command refusal.Refusal
+command_of_words [] line format = Err Line
+command_of_words (word ∷ others) line format = command_by word others line format
+
+-- the command of a line for a point format, or why it is refused
+unfoldable pub command_of : List ℕ → ℕ → Result command.Command refusal.Refusal
+command_of line format = command_of_words (words line) line format
+
+-- an edit of a command has a class that a point format has room for
+abbrev pub HasRoom : ℕ → command.Command → Type 0
+HasRoom format (Edit e) = e.to ≤ meaning.top_class format
+HasRoom format _ = Unit
+
+-- a view of a command is one of all records by class
+abbrev pub IsByClass : command.Command → Type 0
+IsByClass (View view) = view ≡ picture.by_class view.camera
+IsByClass _ = Unit
+
+-- the code that answers a refused line
+abbrev pub refusal_code : refusal.Refusal → ℕ
+refusal_code Line = 1
+refusal_code (Limit _) = 2
+refusal_code ClassRange = 4

@@ -1,0 +1,13 @@
+use edit_ops::Edit;
+use view_text::ViewSpec;
+
+/// What a line of a session asks for.
+#[derive(Clone, Copy, Debug)]
+pub enum Command {
+    /// A picture.
+    View(ViewSpec),
+    /// Another class for the records of some classes in a box.
+    Edit(Edit),
+    /// The survey as a file.
+    Save,
+}
