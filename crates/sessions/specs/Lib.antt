@@ -1,0 +1,8 @@
+pub mod Lines
+pub mod Histories
+pub mod Replies
+pub mod Session
+pub mod Giving
+pub mod Talk
+pub mod Hearing
+pub mod Listening

@@ -1,0 +1,25 @@
+use edit_ops::Edit;
+use view_base::{Listing, Version};
+
+/// What happened to the versions of a survey's classes.
+#[derive(Clone, Copy, Debug, PartialEq, Eq)]
+pub enum What {
+    /// An edit was published, which made the next version.
+    Publish(Edit),
+    /// The version that was current then was pinned.
+    Pin,
+    /// A pin of this version was given back.
+    Unpin(Version),
+}
+
+/// One entry of a history: who made it, and what it is. Sessions are numbered from 1.
+#[derive(Clone, Copy, Debug, PartialEq, Eq)]
+pub struct Entry {
+    /// The number of the session.
+    pub who: u32,
+    /// What happened.
+    pub what: What,
+}
+
+/// What happened to the versions, in order. Version v has the first v published edits.
+pub type History = Listing<Entry>;

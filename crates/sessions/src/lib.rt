@@ -1,0 +1,16 @@
+//! One editing session: the lines of its input, what each is answered, and the history of the
+//! versions that it makes and pins.
+#![tactic(auto)]
+
+mod answering;
+mod end;
+mod hearing;
+mod heads;
+mod history;
+mod pending;
+mod serving;
+mod talk;
+
+pub use end::{Ends, Marks, Reason, SessionEnd};
+pub use history::{Entry, History, What};
+pub use serving::serve_alone;
