@@ -1,3 +1,3 @@
 mod Histories
--- mod Tales
+mod Tales
 -- mod Replying
