@@ -1,3 +1,3 @@
 mod Histories
 mod Tales
--- mod Replying
+mod Replying
