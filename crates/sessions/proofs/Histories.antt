@@ -18,6 +18,19 @@ pub journal-append : (h more : List Entry) → journal (h ++ more) ≡ journal h
 unfolding journal
 journal-append h more = flat_map-append (λ (entry : Entry). edit_in entry.what) h more
 
+pub length-journal : (h : List Entry) → length (journal h) ≤ length h
+unfolding journal
+length-journal [] = omega arith
+length-journal (entry ∷ h) =
+    let one : length (edit_in entry.what) ≤ 1 = one_at_most entry.what in
+    let others = length-journal h in
+    omega (arith, length-append (edit_in entry.what) (journal h))
+  where
+    one_at_most : (what : What) → length (edit_in what) ≤ 1
+    one_at_most (Publish edit) = omega arith
+    one_at_most Pin = omega arith
+    one_at_most (Unpin v) = omega arith
+
 pub numbered_from-append : (v : ℕ) (h more : List Entry) → numbered_from v (h ++ more) ≡ numbered_from v h ++ numbered_from (v + length (journal h)) more
 unfolding numbered_from journal
 numbered_from-append v [] more = let same : v ≡ v + 0 = omega arith in ap (λ (n : ℕ). numbered_from n more) same

@@ -1,3 +1,4 @@
 mod Histories
 mod Tales
 mod Replying
+mod Adding

@@ -1,7 +1,7 @@
 -- The replies to one more item, and what the output then has.
-use Rattle.std.proofs.Common.{◌≡◌, ℕ, suc, ◌+◌, ◌-◌, ◌<◌, ◌≤◌, List, [], ◌∷◌, ◌++◌, length, get_or, take, drop, Option, Some, None, Ok, Err, refl, sym, ap, subst, ◌∙◌, arith, length-append, append_assoc}
+use Rattle.std.proofs.Common.{◌≡◌, ℕ, suc, ◌+◌, ◌-◌, ◌<◌, ◌≤◌, List, [], ◌∷◌, ◌++◌, length, get_or, take, drop, Option, Some, None, Ok, Err, true, false, inl, inr, refl, sym, ap, subst, ◌∙◌, arith, length-append, append_assoc}
 use Rattle.std.specs.Prelude.{IfSome, codes}
-use Rattle.std.proofs.lemmas.List.{append-nil, take-append-drop, take-append-le, take_all, take_at, length-take, length_push, get_or_push}
+use Rattle.std.proofs.lemmas.List.{append-nil, take-append-drop, take-append-le, take-take, take_all, take_at, length-take, length_push, get_or_push}
 use Rattle.std.proofs.Math.Seq.{take-append-add}
 use Rattle.view_ends.specs.Ends.{Gains, GainsPart}
 use Rattle.view_meaning.specs.Classes as meaning
@@ -15,9 +15,11 @@ use Rattle.sessions.specs.declared.talk.Talk.{Talk}
 use Rattle.sessions.specs.Lines.{Item}
 use Rattle.sessions.specs.Histories.{journal}
 use Rattle.sessions.specs.Replies.{version, head, with_length, reply, replies}
-use Rattle.sessions.specs.Session.{but_last, GotMost}
-use Rattle.sessions.specs.Talk.{IsSound, Stays, Adds, IsTale, IsAnswering, GaveUp, entries_of, last_mark, mark_of, last_reply}
-use Rattle.sessions.proofs.Tales.{AreWithin, published, journal_more, tale_length, tale_more}
+use Rattle.sessions.specs.Session.{but_last, GotMost, Served}
+use Rattle.sessions.specs.Listening.{Listened}
+use Rattle.sessions.specs.declared.end.Reason.{Reason}
+use Rattle.sessions.specs.Talk.{IsSound, Stays, Adds, IsTale, IsAnswering, GaveUp, AnsweredAll, entries_of, last_mark, mark_of, last_reply}
+use Rattle.sessions.proofs.Tales.{AreWithin, published, journal_more, tale_nothing, tale_length, tale_more, tale_told, tale_fresh}
 
 -- a version does not change where more edits are published
 pub version-append : (b : List ℕ) (edits more : List meaning.Edit) (v : ℕ) → v ≤ length edits → version b (edits ++ more) v ≡ version b edits v
@@ -208,3 +210,59 @@ pub gave_up-none : (b : List ℕ) (all items : List Item) (old new : Talk) (star
 gave_up-none b all items old new start before after answering stays same front =
     let most = gave_up_none b items old new start before after answering stays same in
     gave_up b all items new start after front.0 front.1 most.0 most.1
+
+-- a session that has processed nothing
+pub answering_nothing : (b : List ℕ) (talk : Talk) (start : Option (List ℕ)) → IsSound b talk → talk.history.items ≡ [] → talk.marks.items ≡ [] → IsAnswering b [] talk start start
+unfolding replies
+answering_nothing b talk start sound history marks = record {
+  sound = sound;
+  tale = rw (history, marks) tale_nothing;
+  got = gains_none start;
+}
+  where
+    gains_none : (told : Option (List ℕ)) → Gains told [] told
+    gains_none None = tt
+    gains_none (Some all) = ap Some (sym (append-nil all))
+
+-- the items of a line, which are one or none, were processed
+pub answering_line : (b : List ℕ) (items line : List Item) (old new : Talk) (start before after : Option (List ℕ)) → length line ≤ 1
+    → IsAnswering b items old start before → AnsweredAll b old new line before after true → IsAnswering b (items ++ line) new start after
+answering_line b items [] old new start before after one answering answered =
+    rw (append-nil items) (answering_stays b items old new start before after answering answered.1 answered.2)
+answering_line b items (item ∷ []) old new start before after one answering answered =
+    let whole = answered.whole refl in
+    answering_more b items item old new start before after answering whole.0 whole.1
+answering_line b items (item ∷ other ∷ others) old new start before after one answering answered = absurd (omega arith)
+
+-- a front of a list has each of its own fronts
+front_before : (items line all : List Item) → (k : ℕ) × (take k all ≡ items ++ line) → (k : ℕ) × (take k all ≡ items)
+front_before items line all front =
+    let k = front.0 in
+    let n = length items in
+    let cut : take n (take k all) ≡ items = ap (λ (l : List Item). take n l) front.1 ∙ take_at items line n refl in
+    let within : n ≤ k = omega (arith, ap length front.1, length-take k all, length-append items line) in
+    (n, sym (take-take n k all within) ∙ cut)
+
+-- the session gave up at a line
+pub gave_up-line : (b : List ℕ) (all items line : List Item) (old new : Talk) (start before after : Option (List ℕ)) → length line ≤ 1
+    → IsAnswering b items old start before → AnsweredAll b old new line before after false → (k : ℕ) × (take k all ≡ items ++ line) → GaveUp b all new start after
+gave_up-line b all items [] old new start before after one answering answered front = absurd (cc (answered.0))
+gave_up-line b all items (item ∷ []) old new start before after one answering answered front =
+    elim (answered.part refl) [
+      | inl none ↦ gave_up-none b all items old new start before after answering none.0 none.1 (front_before items (item ∷ []) all front)
+      | inr part ↦ gave_up-part b all items item old new start before after answering part.0 part.1 front
+    ]
+gave_up-line b all items (item ∷ other ∷ others) old new start before after one answering answered front = absurd (omega arith)
+
+-- a session that was heard as far as its input goes was served
+pub served_listened : (b : List ℕ) (talk : Talk) (left old new : Option (List ℕ)) (reason : Reason) (taken : ℕ) → Listened b talk left old new reason taken
+    → Served b [] talk.history.items 1 left old new talk.marks.items reason taken
+served_listened b talk left old new reason taken listened = record {
+  input = listened.input;
+  items = listened.items;
+  input_is = listened.input_is;
+  processed = listened.processed;
+  told = tale_told listened.items talk.marks.items talk.history.items listened.tale;
+  fresh = tale_fresh listened.items talk.marks.items talk.history.items listened.tale;
+  got = listened.got;
+}
