@@ -1,6 +1,6 @@
 -- Histories over appends, and one more entry at their end.
-use Rattle.std.proofs.Common.{◌≡◌, ℕ, zero, suc, ◌+◌, ◌-◌, ◌<◌, ◌≤◌, Bool, true, false, ◌&&◌, ◌||◌, cond, eqb, nat_lt, List, [], ◌∷◌, ◌++◌, length, get_or, map, take, drop, Some, refl, sym, ap, inl, inr, ◌∙◌, arith, length-append}
-use Rattle.std.specs.List.{filter, range_with_len, flat_map, sum_by, count_by, slice_get, All}
+use Rattle.std.proofs.Common.{◌≡◌, ℕ, zero, suc, ◌+◌, ◌-◌, ◌<◌, ◌≤◌, Bool, true, false, ◌&&◌, ◌||◌, cond, eqb, nat_lt, List, [], ◌∷◌, ◌++◌, length, get_or, map, take, Some, refl, sym, ap, inl, inr, ◌∙◌, arith, length-append}
+use Rattle.std.specs.List.{filter, range_with_len, count_by, slice_get}
 use Rattle.std.proofs.lemmas.Bool.{cases_lt, ne_eqb, eq-eqb}
 use Rattle.std.proofs.lemmas.List.{append-nil, take-append-le, take_at, get_or_append_left, get_or_push, length_push}
 use Rattle.std.proofs.lemmas.List.Elements.{filter-append, All-from_get_or}
@@ -176,11 +176,11 @@ IsLegal-shown by n h is back legal =
     let held : IsLegal pin = IsLegal-push h (entry_by by Pin) legal (λ who v is. let other : Pin ≡ Unpin v = ap (λ (entry : Entry). entry.what) is in absurd (cc)) in
     IsLegal-push pin (entry_by by (Unpin n)) held
     (λ who v is_that.
-      let caller : by ≡ who = ap (λ (entry : Entry). entry.who) is_that in
-      let what : Unpin n ≡ Unpin v = ap (λ (entry : Entry). entry.what) is_that in
-      let version : n ≡ v = cc in
-      let one : once by (length (journal h)) who v ≡ 1 = rw (eq-eqb by who caller, eq-eqb (length (journal h)) v (sym is ∙ version)) refl in
-      omega (arith, one, pins-pin who v by h, unpins-pin who v by h, back who v))
+    let caller : by ≡ who = ap (λ (entry : Entry). entry.who) is_that in
+    let what : Unpin n ≡ Unpin v = ap (λ (entry : Entry). entry.what) is_that in
+    let version : n ≡ v = cc in
+    let one : once by (length (journal h)) who v ≡ 1 = rw (eq-eqb by who caller, eq-eqb (length (journal h)) v (sym is ∙ version)) refl in
+    omega (arith, one, pins-pin who v by h, unpins-pin who v by h, back who v))
 
 pub IsLegal-none : IsLegal []
 unfolding IsLegal

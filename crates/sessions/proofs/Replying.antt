@@ -1,5 +1,5 @@
 -- The replies to one more item, and what the output then has.
-use Rattle.std.proofs.Common.{◌≡◌, ℕ, suc, ◌+◌, ◌-◌, ◌<◌, ◌≤◌, List, [], ◌∷◌, ◌++◌, length, get_or, take, drop, Option, Some, None, Ok, Err, true, false, inl, inr, refl, sym, ap, subst, ◌∙◌, arith, length-append, append_assoc}
+use Rattle.std.proofs.Common.{◌≡◌, ℕ, suc, ◌+◌, ◌-◌, ◌≤◌, List, [], ◌∷◌, ◌++◌, length, take, drop, Option, Some, None, Ok, Err, true, false, inl, inr, refl, sym, ap, subst, ◌∙◌, arith, length-append, append_assoc}
 use Rattle.std.specs.Prelude.{IfSome, codes}
 use Rattle.std.proofs.lemmas.List.{append-nil, take-append-drop, take-append-le, take-take, take_all, take_at, length-take, length_push, get_or_push}
 use Rattle.std.proofs.Math.Seq.{take-append-add}
@@ -138,10 +138,11 @@ gave_up_part b items item old new start before after answering added gains =
     let more = one_more b items item old new answering.sound answering.tale added in
     let first = replies b (journal old.history.items) items old.marks.items in
     let all = items ++ item ∷ [] in
-    let got = part_then start before after first (last_reply b new item) answering.got gains in
-    (more.0,
-    subst (λ (text : List ℕ). IfSome start (λ start. (k : ℕ) × (length text ≤ k) × (after ≡ Some (start ++ take k (replies b (journal new.history.items) all new.marks.items))))) (sym more.2)
-    (subst (λ (text : List ℕ). IfSome start (λ start. (k : ℕ) × (length first ≤ k) × (after ≡ Some (start ++ take k text)))) (sym more.1) got))
+    let got = part_then start before after first (last_reply b new item) answering.got gains in (
+      more.0,
+      subst (λ (text : List ℕ). IfSome start (λ start. (k : ℕ) × (length text ≤ k) × (after ≡ Some (start ++ take k (replies b (journal new.history.items) all new.marks.items))))) (sym more.2)
+          (subst (λ (text : List ℕ). IfSome start (λ start. (k : ℕ) × (length first ≤ k) × (after ≡ Some (start ++ take k text)))) (sym more.1) got),
+    )
 
 -- the replies to all items but the last are no longer than all
 replies-but_last : (b : List ℕ) (edits : List meaning.Edit) (items : List Item) (marks : List ℕ) → length items ≡ length marks

@@ -1,5 +1,5 @@
 -- The history of one session alone, item by item.
-use Rattle.std.proofs.Common.{◌≡◌, ℕ, zero, suc, ◌+◌, ◌-◌, ◌<◌, ◌≤◌, Bool, eqb, List, [], ◌∷◌, ◌++◌, length, get_or, drop, Ok, Err, refl, sym, ap, subst, inl, inr, ◌∙◌, arith, length-append}
+use Rattle.std.proofs.Common.{◌≡◌, ℕ, suc, ◌+◌, ◌-◌, ◌<◌, ◌≤◌, Bool, eqb, List, [], ◌∷◌, ◌++◌, length, get_or, Ok, Err, refl, sym, ap, subst, inl, inr, ◌∙◌, arith, length-append}
 use Rattle.std.specs.List.{filter, All}
 use Rattle.std.proofs.lemmas.Bool.{cases_lt}
 use Rattle.std.proofs.lemmas.List.{append-nil, append_assoc, length_push, get_or_append_left, get_or_push, get_or_default}
@@ -219,8 +219,8 @@ tale_more items marks h item tale =
       back = back_more item n h refl tale.back;
       rising = rising_push marks mark (mark_after item marks n tale.newest tale.rising) tale.rising;
       newest =
-      rw (newest_more item h)
-      (within_push marks mark (n + length (published item)) (λ k inside. let low = tale.newest k inside in omega arith) (mark_within item marks n tale.newest));
+          rw (newest_more item h)
+          (within_push marks mark (n + length (published item)) (λ k inside. let low = tale.newest k inside in omega arith) (mark_within item marks n tale.newest));
     }
 
 -- the tale of a session alone tells its entries, and its marks are fresh
