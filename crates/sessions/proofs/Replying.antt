@@ -74,7 +74,7 @@ replies_more b items marks h item n mark tale =
     ∙ ap (λ (text : List ℕ). text ++ reply b edits item mark) (replies-more_edits b (journal h) (published item) items marks tale.newest)
 
 -- the same, where the histories and the marks are told by equations
-abbrev AreOneMore : List ℕ → List Item → Item → List Entry → List ℕ → List Entry → List ℕ → Type 0
+abbrev pub AreOneMore : List ℕ → List Item → Item → List Entry → List ℕ → List Entry → List ℕ → Type 0
 AreOneMore b items item h0 marks0 h marks =
     IsTale (items ++ item ∷ []) marks h
     × (replies b (journal h) (items ++ item ∷ []) marks ≡ replies b (journal h0) items marks0 ++ reply b (journal h) item (last_mark marks))

@@ -62,7 +62,7 @@ mine_of (Ok Save) n = mine_shown n
 mine_of (Err refusal) n = mine_none
 
 -- the last of some marks, or the mark before them
-abbrev last_from : ℕ → List ℕ → ℕ
+abbrev pub last_from : ℕ → List ℕ → ℕ
 last_from before [] = before
 last_from before (mark ∷ marks) = last_from mark marks
 
