@@ -1,1 +1,5 @@
+pub mod Histories
+pub mod Tales
+pub mod Replying
+pub mod Adding
 pub mod Sound
