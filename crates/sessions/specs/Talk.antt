@@ -18,7 +18,6 @@ use Rattle.sessions.specs.Session.{Makes, own, GotMost}
 pub record IsSound (b : List ℕ) (talk : Talk) : Type 0 where
   pub newest_is : talk.newest ≡ length (journal talk.history.items)
   pub classes_are : talk.classes ≡ meaning.classes b (journal talk.history.items)
-  pub records : length talk.classes ≡ record_count b
   pub fits : EachFits (format_of b) talk.classes
 
 -- nothing but the room of the lists is other than before
