@@ -1,10 +1,9 @@
 -- Classes that a format has room for, record by record and after an edit.
-use Rattle.std.proofs.Common.{◌≡◌, ◌≢◌, ℕ, suc, ◌<◌, ◌≤◌, Bool, true, false, if◌then◌else◌, List, length, get_or, set, map, inl, inr, refl, sym, ◌∙◌, ap, subst, arith}
+use Rattle.std.proofs.Common.{◌≡◌, ◌≢◌, ℕ, suc, ◌<◌, ◌≤◌, Bool, true, false, if◌then◌else◌, List, length, get_or, set, map, inl, inr, sym, ◌∙◌, ap, subst, arith}
 use Rattle.std.proofs.lemmas.Bool.{cases_lt}
 use Rattle.std.proofs.lemmas.List.{get_or_default, get_or-set_same, get_or-set_other}
 use Rattle.std.proofs.lemmas.List.FromFn.{get_or-map-range_with_len, length-map-range_with_len}
 use Rattle.std.specs.List.{range_with_len}
-use Rattle.view_base.specs.declared.place.Point.{Point}
 use Rattle.view_meaning.specs.Survey.{record_count, point_of}
 use Rattle.view_meaning.specs.Classes.{Edit, applies, class_after, class_at, classes, top_class}
 use Rattle.class_pages.specs.Changed.{after_edit}

@@ -1,3 +1,4 @@
-pub mod Header
+pub mod Fault
 pub mod Kept
 pub mod Loading
+pub mod Refusal

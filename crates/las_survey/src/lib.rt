@@ -1,13 +1,17 @@
 //! A survey: the bytes of a LAS file that were read to their end and found to be laid out as a
-//! survey is, and the header's fields beside them.
+//! survey is, and beside them the header's fields and the places of its variable length records.
 #![tactic(auto)]
 
-mod header;
+mod fault;
+#[cfg(test)]
+mod limit_tests;
 mod loading;
-mod number;
-mod plain;
 mod survey;
+#[cfg(test)]
+mod tests;
 
-pub use header::Header;
+pub use fault::SurveyFault;
+pub use las_header::{Header, HeaderFault};
+pub use las_vlr::{VlrList, VlrPlace};
 pub use loading::{LoadFault, load};
 pub use survey::Survey;

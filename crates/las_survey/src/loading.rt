@@ -1,10 +1,14 @@
-ghost use Rattle.std.specs.Prelude.{◌≡◌, ℕ, ◌+◌, ◌≤◌, ◌<◌, List, length, IfOk, IfSome, IsErrOf};
+ghost use Rattle.std.specs.Prelude.{◌≡◌, ℕ, ◌+◌, ◌^◌, ◌≤◌, ◌<◌, List, length, Some, IfOk, IfSome, IsErrOf};
+ghost use Rattle.las_survey.specs.Fault.{fault_of};
 ghost use Rattle.las_survey.specs.Loading.{TookAll};
 ghost use Rattle.view_ends.specs.Ends.{Rose};
-ghost use Rattle.view_meaning.specs.Survey.{IsPlain};
+ghost use Rattle.view_meaning.specs.Layout as layout;
+ghost use Rattle.view_meaning.specs.Layout.{IsLaid};
 
-use crate::plain::is_plain;
+use crate::fault::SurveyFault;
 use crate::survey::Survey;
+use las_header::HeaderFault;
+use las_vlr::{EvlrFault, VlrFault};
 use std::alloc::Global;
 use view_base::{Bytes, OutOfMemory};
 use view_ends::{Failed, Source};
@@ -24,8 +28,8 @@ pub enum LoadFault {
     TooLong,
     /// Want of memory.
     Memory,
-    /// The bytes are no plain survey.
-    NotYet,
+    /// The bytes are not laid out as a survey.
+    Survey(SurveyFault),
 }
 
 impl From<OutOfMemory> for LoadFault {
@@ -39,26 +43,63 @@ impl From<OutOfMemory> for LoadFault {
     }
 }
 
-/// Takes all bytes of a source, and answers the survey that they are. It asks for no byte past
-/// the one that makes a survey too long.
+impl From<HeaderFault> for LoadFault {
+    ghost use Rattle.std.specs.Prelude.{◌≡◌};
+    ghost use Rattle.las_survey.specs.Refusal.{of_header};
+
+    ghost from_gives = { λ fault refusal. refusal ≡ of_header fault };
+
+    fn from(fault: HeaderFault) -> Self {
+        LoadFault::Survey(SurveyFault::Header(fault))
+    }
+}
+
+impl From<VlrFault> for LoadFault {
+    ghost use Rattle.std.specs.Prelude.{◌≡◌};
+    ghost use Rattle.las_survey.specs.Refusal.{of_vlr};
+
+    ghost from_gives = { λ fault refusal. refusal ≡ of_vlr fault };
+
+    fn from(fault: VlrFault) -> Self {
+        match fault {
+            VlrFault::Vlr { k, at } => LoadFault::Survey(SurveyFault::Vlr { k, at }),
+            VlrFault::Memory => LoadFault::Memory,
+        }
+    }
+}
+
+impl From<EvlrFault> for LoadFault {
+    ghost use Rattle.std.specs.Prelude.{◌≡◌};
+    ghost use Rattle.las_survey.specs.Refusal.{of_evlr};
+
+    ghost from_gives = { λ fault refusal. refusal ≡ of_evlr fault };
+
+    fn from(fault: EvlrFault) -> Self {
+        match fault {
+            EvlrFault::Evlr { k, at } => LoadFault::Survey(SurveyFault::Evlr { k, at }),
+            EvlrFault::Memory => LoadFault::Memory,
+        }
+    }
+}
+
+/// Takes all bytes of a source, and answers the survey that they are, or the first fault of their
+/// layout. It asks for no byte past the one that makes a survey too long.
 pub fn load<S: Source>(alloc: Global, source: &mut S) -> Result<Survey, LoadFault>
     ensures took { IfOk result (λ survey. TookAll (S.left source.old) (S.taken source.old) survey (S.left source.new) (S.taken source.new)) }
-    ensures plain { IfOk result IsPlain }
+    ensures laid { IfOk result IsLaid }
 
     ensures read_fault { IsErrOf result LoadFault.ReadFault → Rose (S.faults source.old) (S.faults source.new) }
     ensures too_long { IsErrOf result LoadFault.TooLong → S.taken source.new ≡ S.taken source.old + (LIMIT + 1) }
     ensures too_many { IsErrOf result LoadFault.TooLong → IfSome (S.left source.old) (λ all. LIMIT < length all) }
-    ensures not_yet { IsErrOf result LoadFault.NotYet → (bytes : List ℕ) × (length bytes ≤ LIMIT) × TookAll (S.left source.old) (S.taken source.old) bytes (S.left source.new) (S.taken source.new) × (IsPlain bytes → ⊥) }
+    ensures survey { (fault : SurveyFault) → IsErrOf result (LoadFault.Survey fault) → (bytes : List ℕ) × (length bytes ≤ LIMIT) × TookAll (S.left source.old) (S.taken source.old) bytes (S.left source.new) (S.taken source.new) × (layout.fault bytes ≡ Some (fault_of fault)) }
     ensures calm { (IsErrOf result LoadFault.ReadFault → ⊥) → S.faults source.new ≡ S.faults source.old }
     ensures later { S.faults source.old ≤ S.faults source.new }
     ensures few { S.taken source.new ≤ S.taken source.old + (LIMIT + 1) }
+    ensures no_more { (IsErrOf result LoadFault.TooLong → ⊥) → S.taken source.new ≤ S.taken source.old + LIMIT }
+    ensures limit { LIMIT ≡ 2 ^ 30 }
 {
     let bytes = taken_from(alloc, source)?;
-    if is_plain(bytes.as_slice()) {
-        Ok(Survey::of(bytes))
-    } else {
-        Err(LoadFault::NotYet)
-    }
+    Survey::of(alloc, bytes)
 }
 
 /// All bytes of a source, where they are few enough.
@@ -69,10 +110,11 @@ fn taken_from<S: Source>(alloc: Global, source: &mut S) -> Result<Bytes, LoadFau
     ensures read_fault { IsErrOf result LoadFault.ReadFault → Rose (S.faults source.old) (S.faults source.new) }
     ensures too_long { IsErrOf result LoadFault.TooLong → S.taken source.new ≡ S.taken source.old + (LIMIT + 1) }
     ensures too_many { IsErrOf result LoadFault.TooLong → IfSome (S.left source.old) (λ all. LIMIT < length all) }
-    ensures not_yet { IsErrOf result LoadFault.NotYet → ⊥ }
+    ensures survey { (fault : SurveyFault) → IsErrOf result (LoadFault.Survey fault) → ⊥ }
     ensures calm { (IsErrOf result LoadFault.ReadFault → ⊥) → S.faults source.new ≡ S.faults source.old }
     ensures later { S.faults source.old ≤ S.faults source.new }
     ensures few { S.taken source.new ≤ S.taken source.old + (LIMIT + 1) }
+    ensures no_more { (IsErrOf result LoadFault.TooLong → ⊥) → S.taken source.new ≤ S.taken source.old + LIMIT }
 {
     let mut bytes = Bytes::new(alloc);
     let mut piece = [0u8; PIECE];

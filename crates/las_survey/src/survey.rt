@@ -1,17 +1,26 @@
-ghost use Rattle.std.specs.Prelude.{◌≡◌, ◌+◌, ◌*◌, ◌^◌, ◌<◌, ◌≤◌, length, take, drop};
-ghost use Rattle.view_meaning.specs.Layout.{least_length};
-ghost use Rattle.view_meaning.specs.Survey.{IsPlain, format_of, record_at, record_count, record_length};
+ghost use Rattle.std.specs.Prelude.{◌≡◌, ◌+◌, ◌*◌, ◌^◌, ◌<◌, ◌≤◌, length, take, drop, Some, IfOk, IsErrOf};
+ghost use Rattle.las_survey.specs.Fault.{fault_of};
+ghost use Rattle.las_vlr.specs.Places.{vlr_places, evlr_places};
+ghost use Rattle.view_meaning.specs.Layout as layout;
+ghost use Rattle.view_meaning.specs.Layout.{IsLaid, least_length};
+ghost use Rattle.view_meaning.specs.Survey.{header_size, points_at, vlr_count, evlrs_at, evlr_count, format_of, record_at, record_count, record_length, points_end};
 
-use crate::header::Header;
+use crate::fault::SurveyFault;
+use crate::loading::LoadFault;
+use las_header::{Header, read_header};
+use las_vlr::{VlrList, walk_evlrs, walk_vlrs};
+use std::alloc::Global;
 use std::marker::Model;
 use view_base::Bytes;
 
-/// The bytes of a plain survey. Contracts see it as the list of its bytes; the type keeps that
-/// they are a plain survey's and at most 2^30.
+/// The bytes of a file that is laid out as a survey. Contracts see it as the list of its bytes;
+/// the type keeps that they are laid out so and at most 2^30.
 #[derive(Drop)]
 pub struct Survey {
     bytes: Bytes,
     header: Header,
+    vlrs: VlrList,
+    evlrs: VlrList,
 }
 
 impl Model for Survey {
@@ -22,27 +31,46 @@ impl Model for Survey {
 
     ghost view = { λ a. a.bytes.items };
 
-    ghost invariant = { λ a. IsKept a.bytes.items a.header };
+    ghost invariant = { λ a. IsKept a.bytes.items a.header a.vlrs.items a.evlrs.items };
 }
 
 impl Survey {
-    ghost use Rattle.las_survey.specs.Header.{IsHeaderOf};
+    ghost use Rattle.las_header.specs.Header.{IsHeaderOf};
 
-    /// The survey of a file's bytes, which takes no memory.
-    pub(crate) fn of(bytes: Bytes) -> Survey
-        requires plain { IsPlain bytes.items }
+    /// The survey of a file's bytes, or their first fault.
+    pub(crate) fn of(alloc: Global, bytes: Bytes) -> Result<Survey, LoadFault>
         requires short { length bytes.items ≤ 2 ^ 30 }
-        ensures { result ≡ bytes.items }
+        ensures same { IfOk result (λ survey. survey ≡ bytes.items) }
+        ensures laid { IfOk result IsLaid }
+        ensures survey { (fault : SurveyFault) → IsErrOf result (LoadFault.Survey fault) → layout.fault bytes.items ≡ Some (fault_of fault) }
+        ensures read_fault { IsErrOf result LoadFault.ReadFault → ⊥ }
+        ensures too_long { IsErrOf result LoadFault.TooLong → ⊥ }
     {
-        let header = Header::of(bytes.as_slice());
-        Survey { bytes, header }
+        let all = bytes.as_slice();
+        let header = read_header(all)?;
+        let first = u64::from(header.size);
+        let vlrs = walk_vlrs(alloc, all, first, u64::from(header.points_at), header.vlrs)?;
+        let need = points_end_of(&header);
+        let have = all.len() as u64;
+        if need > u128::from(have) {
+            return Err(LoadFault::Survey(SurveyFault::Points { need, have }));
+        }
+        let evlrs = walk_evlrs(alloc, all, header.evlrs_at, need as u64, header.evlrs)?;
+        Ok(Survey {
+            bytes,
+            header,
+            vlrs,
+            evlrs,
+        })
     }
 
-    /// All bytes of the file.
+    /// All bytes of the file. The points are among them: they end at their last byte or before.
     pub fn bytes(&self) -> &[u8]
         ensures bytes { result.now ≡ self.now }
-        ensures plain { IsPlain self.now }
+        ensures laid { IsLaid self.now }
         ensures short { length self.now ≤ 2 ^ 30 }
+        ensures points { points_end self.now ≤ length self.now }
+        ensures before { points_at self.now ≤ points_end self.now }
     {
         self.bytes.as_slice()
     }
@@ -51,6 +79,7 @@ impl Survey {
     pub fn header(&self) -> &Header
         ensures fields { IsHeaderOf self.now result.now }
         ensures known { format_of self.now ≤ 10 }
+        ensures fitting { least_length (format_of self.now) ≤ record_length self.now }
     {
         &self.header
     }
@@ -58,7 +87,7 @@ impl Survey {
     /// The number of point records, at most 53687091: a record has at least 20 of the bytes.
     pub fn records(&self) -> u32
         ensures count { result ≡ record_count self.now }
-        ensures plain { IsPlain self.now }
+        ensures laid { IsLaid self.now }
         ensures small { result ≤ 53687091 }
     {
         self.header.records as u32
@@ -71,10 +100,31 @@ impl Survey {
         ensures whole { length result.now ≡ record_length self.now }
         ensures least { 20 ≤ record_length self.now }
         ensures fitting { least_length (format_of self.now) ≤ record_length self.now }
-        ensures plain { IsPlain self.now }
+        ensures laid { IsLaid self.now }
     {
         let size = usize::from(self.header.length);
         let at = self.header.points_at as usize + i as usize * size;
         &self.bytes.as_slice()[at..at + size]
     }
+
+    /// The places of the variable length records, in their order.
+    pub fn vlrs(&self) -> &VlrList
+        ensures { result.now.items ≡ vlr_places self.now (header_size self.now) (vlr_count self.now) }
+    {
+        &self.vlrs
+    }
+
+    /// The places of the extended variable length records, in their order.
+    pub fn evlrs(&self) -> &VlrList
+        ensures { result.now.items ≡ evlr_places self.now (evlrs_at self.now) (evlr_count self.now) }
+    {
+        &self.evlrs
+    }
+}
+
+/// Where the points end: the offset to point data, and the records times their length.
+fn points_end_of(header: &Header) -> u128
+    ensures { result ≡ header.now.points_at + header.now.records * header.now.length }
+{
+    u128::from(header.points_at) + u128::from(header.records) * u128::from(header.length)
 }

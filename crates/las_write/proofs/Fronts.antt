@@ -1,5 +1,5 @@
 -- What a sink got of a file that is given in parts.
-use Rattle.std.proofs.Common.{◌≡◌, ℕ, ◌+◌, ◌-◌, ◌<◌, ◌≤◌, List, ◌++◌, length, take, drop, Option, Some, None, Result, Ok, Err, OnErr, arith, refl, sym, ap, ◌∙◌, subst}
+use Rattle.std.proofs.Common.{◌≡◌, ℕ, ◌+◌, ◌-◌, ◌<◌, ◌≤◌, List, ◌++◌, length, take, drop, Option, Some, None, Result, Ok, Err, OnErr, arith, sym, ap, ◌∙◌, subst}
 use Rattle.std.proofs.lemmas.List.{append_assoc, length-append, take-append-le}
 use Rattle.std.proofs.Math.Seq.{take-append-add}
 use Rattle.view_ends.specs.Ends.{Gains, GainsPart}
@@ -26,8 +26,7 @@ pub part_of_second : (old mid new : Option (List ℕ)) (xs ys : List ℕ) → Ga
 part_of_second None mid new xs ys a b = tt
 part_of_second (Some all) mid new xs ys a b =
     let b' : GainsPart (Some (all ++ xs)) ys new = subst (λ m. GainsPart m ys new) a b in
-    let less : b'.0 < length ys = b'.1 in
-    (
+    let less : b'.0 < length ys = b'.1 in (
       length xs + b'.0,
       omega (arith, less, length-append xs ys),
       b'.2 ∙ ap (λ (l : List ℕ). Some l) (append_assoc all xs (take b'.0 ys)) ∙ ap (λ (l : List ℕ). Some (all ++ l)) (sym (take-append-add xs ys b'.0)),
@@ -51,9 +50,9 @@ part_of_run b cs piece old mid new given count all is within before this =
     let total : given + count + (all - (given + count)) ≡ all = omega (arith, within) in
     subst (λ (k : ℕ). GainsPart old (saved_records b cs 0 k) new) total
     (subst (λ l. GainsPart old l new) (sym (runs b cs (given + count) (all - (given + count))))
-        (part_of_first old new (saved_records b cs 0 (given + count)) (saved_records b cs (given + count) (all - (given + count)))
-            (subst (λ l. GainsPart old l new) (sym (runs b cs given count))
-                (part_of_second old mid new (saved_records b cs 0 given) (saved_records b cs given count) before (subst (λ l. GainsPart mid l new) is this)))))
+    (part_of_first old new (saved_records b cs 0 (given + count)) (saved_records b cs (given + count) (all - (given + count)))
+    (subst (λ l. GainsPart old l new) (sym (runs b cs given count))
+    (part_of_second old mid new (saved_records b cs 0 given) (saved_records b cs given count) before (subst (λ l. GainsPart mid l new) is this)))))
 
 -- a front of what stands before the points
 pub part_before_points : (b cs front : List ℕ) (old new : Option (List ℕ)) → front ≡ take (points_at b) b → GainsPart old front new → GainsPart old (saved b cs) new

@@ -1,4 +1,4 @@
 pub mod Fronts
-pub mod Plain
+pub mod Fitting
 pub mod Runs
 pub mod Saved

@@ -10,9 +10,9 @@ use Rattle.view_ends.proofs.Taken.{drop-add}
 use Rattle.view_meaning.proofs.Nearest.{range_more}
 use Rattle.view_meaning.proofs.Rows.{range-append}
 use Rattle.view_meaning.specs.Classes.{with_class}
-use Rattle.view_meaning.specs.Saved.{record_bytes, with_class_byte, saved_record, saved}
+use Rattle.view_meaning.specs.Saved.{record_bytes, saved_record, saved}
 use Rattle.view_meaning.specs.Survey.{points_at, format_of, record_length, record_at, record_count, points_end, class_place}
-use Rattle.las_write.specs.Points.{HasPoints, saved_records}
+use Rattle.las_write.specs.Points.{saved_records}
 
 -- every record has its class byte
 pub place_within : (format size : ℕ) → 20 ≤ size → class_place format < size
@@ -72,7 +72,7 @@ read_records-more b first count =
     let there : points_at b + first * record_length b + record_length b ≡ points_at b + (first + 1) * record_length b = grind arith in
     ap (λ (k : ℕ). take k (drop (record_at b first) b)) next ∙ take-add (record_length b) (count * record_length b) (drop (record_at b first) b)
     ∙ ap (λ (l : List ℕ). take (record_length b) (drop (record_at b first) b) ++ take (count * record_length b) l)
-        (drop-add (record_at b first) (record_length b) b ∙ ap (λ (k : ℕ). drop k b) there)
+    (drop-add (record_at b first) (record_length b) b ∙ ap (λ (k : ℕ). drop k b) there)
 
 -- a run of the file ends where the points end, or before
 pub run_within : (b : List ℕ) (first count : ℕ) → points_end b ≤ length b → first + count ≤ record_count b → points_at b + first * record_length b + count * record_length b ≤ length b
@@ -96,17 +96,6 @@ read_records-copied b bytes start first size count long all begin same whole =
 abbrev pub half_saved : List ℕ → List ℕ → ℕ → ℕ → ℕ → List ℕ
 half_saved b cs first count done = saved_records b cs first done ++ read_records b (first + done) (count - done)
 
-pub half_saved-none : (b cs : List ℕ) (first count : ℕ) → half_saved b cs first count 0 ≡ read_records b first count
-half_saved-none b cs first count =
-    let e : first + 0 ≡ first = omega arith in
-    let f : count - 0 ≡ count = omega arith in
-    ap (λ (k : ℕ). read_records b k (count - 0)) e ∙ ap (read_records b first) f
-
-pub half_saved-all : (b cs : List ℕ) (first count : ℕ) → half_saved b cs first count count ≡ saved_records b cs first count
-half_saved-all b cs first count =
-    let none : (count - count) * record_length b ≡ 0 = let e : count - count ≡ 0 = omega arith in let f : 0 * record_length b ≡ 0 = omega arith in ap (λ (k : ℕ). k * record_length b) e ∙ f in
-    ap (λ (k : ℕ). saved_records b cs first count ++ take k (drop (record_at b (first + count)) b)) none ∙ append-nil (saved_records b cs first count)
-
 -- the two parts, and the record between them
 half_saved-parts : (b cs : List ℕ) (first count done : ℕ) → done < count
     → half_saved b cs first count done ≡ saved_records b cs first done ++ (record_bytes b (first + done) ++ read_records b (first + (done + 1)) (count - (done + 1)))
@@ -115,7 +104,7 @@ half_saved-parts b cs first count done more =
     let next : first + done + 1 ≡ first + (done + 1) = omega arith in
     ap (λ (l : List ℕ). saved_records b cs first done ++ l)
     (ap (read_records b (first + done)) left ∙ read_records-more b (first + done) (count - (done + 1))
-        ∙ ap (λ (k : ℕ). record_bytes b (first + done) ++ read_records b k (count - (done + 1))) next)
+    ∙ ap (λ (k : ℕ). record_bytes b (first + done) ++ read_records b k (count - (done + 1))) next)
 
 -- a byte within the middle of three parts
 middle_at : (xs ys zs : List ℕ) (n i : ℕ) → length xs ≡ n → i < length ys → get_or (xs ++ (ys ++ zs)) (n + i) 0 ≡ get_or ys i 0

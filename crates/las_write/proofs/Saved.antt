@@ -1,14 +1,12 @@
 -- The bytes of a saved file, place by place: its length, the class byte of each record, and every other byte.
-use Rattle.std.proofs.Common.{◌≡◌, ◌≢◌, ℕ, zero, suc, ◌+◌, ◌-◌, ◌*◌, ◌/◌, ◌%◌, ◌<◌, ◌≤◌, List, [], ◌∷◌, ◌++◌, length, take, drop, get_or, set, inl, inr, arith, refl, sym, ap, ◌∙◌, take-append-drop}
-use Rattle.std.proofs.lemmas.Bool.{cases_lt, cases_eq}
-use Rattle.std.proofs.lemmas.List.{ext_get_or, length-append, length-take-le, length-drop, get_or-append_right, get_or_append_left, get_or-take, get_or-drop, get_or-set_same, get_or-set_other, set-get_or}
+use Rattle.std.proofs.Common.{◌≡◌, ◌≢◌, ℕ, zero, suc, ◌+◌, ◌-◌, ◌*◌, ◌<◌, ◌≤◌, List, [], ◌++◌, length, take, drop, get_or, set, arith, refl, sym, ap, ◌∙◌, take-append-drop}
+use Rattle.std.proofs.lemmas.List.{length-append, length-take-le, length-drop, get_or-append_right, get_or_append_left, get_or-take, get_or-drop, get_or-set_same, get_or-set_other, set-get_or}
 use Rattle.std.proofs.lemmas.Bool.Decides.{nat_tests}
 use Rattle.std.proofs.lemmas.List.FromFn.{get_or-map-range_with_len}
-use Rattle.std.proofs.Math.Nat.{mul-le-mul_right}
 use Rattle.std.specs.List.{flat_map, range_with_len}
 use Rattle.view_ends.proofs.Taken.{drop-add}
 use Rattle.view_meaning.proofs.Rows.{place_below, flat_map-same}
-use Rattle.view_meaning.specs.Classes.{Edit, class_of, with_class, class_at, classes}
+use Rattle.view_meaning.specs.Classes.{class_of, with_class, class_at, classes}
 use Rattle.view_meaning.specs.Saved.{record_bytes, saved_record, saved}
 use Rattle.view_meaning.specs.Survey.{u8_at, points_at, points_end, format_of, record_length, record_at, record_count, class_place, class_byte}
 use Rattle.las_write.specs.Points.{saved_records}

@@ -1,7 +1,7 @@
-ghost use Rattle.std.specs.Prelude.{◌≡◌, All, ◌+◌, ◌*◌, ◌≤◌, ◌<◌, length, take, drop, slice_index};
-ghost use Rattle.las_survey.specs.Header.{IsHeaderOf};
+ghost use Rattle.std.specs.Prelude.{◌≡◌, ◌+◌, ◌*◌, ◌≤◌, ◌<◌, length, take, drop, slice_index};
+ghost use Rattle.las_header.specs.Header.{IsHeaderOf};
+ghost use Rattle.class_pages.specs.Fitting.{EachFits};
 ghost use Rattle.las_write.specs.Points.{HasPoints, saved_records};
-ghost use Rattle.view_meaning.specs.Classes.{top_class};
 ghost use Rattle.view_meaning.specs.Survey.{format_of, record_at, record_count, record_length};
 
 use class_bits::with_class;
@@ -21,7 +21,7 @@ pub(crate) fn copy_records(
     requires within { first + count ≤ record_count survey.now }
     requires size { length piece.old ≡ count * record_length survey.now }
     requires records { length classes.now ≡ record_count survey.now }
-    requires room { All (λ class. class ≤ top_class (format_of survey.now)) classes.now }
+    requires room { EachFits (format_of survey.now) classes.now }
     ensures { piece.new ≡ saved_records survey.now classes.now first count }
 {
     let bytes = survey.bytes();
@@ -38,14 +38,14 @@ fn set_classes(piece: &mut [u8], survey: &Survey, classes: &Classes, first: u32,
     requires size { length piece.old ≡ count * record_length survey.now }
     requires read { piece.old ≡ take (count * record_length survey.now) (drop (record_at survey.now first) survey.now) }
     requires records { length classes.now ≡ record_count survey.now }
-    requires room { All (λ class. class ≤ top_class (format_of survey.now)) classes.now }
+    requires room { EachFits (format_of survey.now) classes.now }
     ensures { piece.new ≡ saved_records survey.now classes.now first count }
 {
-    let format = survey.header().format;
-    let size = usize::from(survey.header().length);
-    let place = class_place(format);
+    let header = survey.header();
+    let size = usize::from(header.length);
+    let place = class_place(header.format);
     for k in 0..count {
         let byte = &mut piece[k as usize * size + place];
-        *byte = with_class(format, *byte, classes.class_at(first + k));
+        *byte = with_class(header.format, *byte, classes.class_at(first + k));
     }
 }

@@ -1,7 +1,7 @@
-ghost use Rattle.std.specs.Prelude.{◌≡◌, All, ◌≤◌, ◌<◌, OnOk, OnErr, IsErrOf, length, take, drop, slice_index};
+ghost use Rattle.std.specs.Prelude.{◌≡◌, ◌≤◌, ◌<◌, OnOk, OnErr, IsErrOf, length, take, drop, slice_index};
+ghost use Rattle.class_pages.specs.Fitting.{EachFits};
 ghost use Rattle.las_write.specs.Points.{HasPoints, saved_records};
 ghost use Rattle.view_ends.specs.Ends.{Rose, Gains, GainsPart};
-ghost use Rattle.view_meaning.specs.Classes.{top_class};
 ghost use Rattle.view_meaning.specs.Saved.{saved};
 ghost use Rattle.view_meaning.specs.Survey.{format_of, points_at, points_end, record_count};
 
@@ -22,7 +22,7 @@ pub fn write_survey<K: Sink>(
     sink: &mut K,
 ) -> Result<(), EndFault>
     requires records { length classes.now ≡ record_count survey.now }
-    requires room { All (λ class. class ≤ top_class (format_of survey.now)) classes.now }
+    requires room { EachFits (format_of survey.now) classes.now }
     ensures given { OnOk result (Gains (K.got sink.old) (saved survey.now classes.now) (K.got sink.new)) }
     ensures part { OnErr result (GainsPart (K.got sink.old) (saved survey.now classes.now) (K.got sink.new)) }
     ensures length { length (saved survey.now classes.now) ≡ length survey.now }
@@ -32,35 +32,30 @@ pub fn write_survey<K: Sink>(
     ensures memory { IsErrOf result EndFault.Memory → K.faults sink.new ≡ K.faults sink.old }
     ensures later { K.faults sink.old ≤ K.faults sink.new }
 {
-    let (start, end) = points(survey);
-    let bytes = survey.bytes();
-    give_all(sink, &bytes[..start])?;
+    let (before, after) = around_points(survey);
+    give_all(sink, before)?;
     give_records(survey, classes, sink)?;
-    give_all(sink, &bytes[end..])
+    give_all(sink, after)
 }
 
-/// Where a survey's point records begin and where they end, in bytes from the file's start.
-fn points(survey: &Survey) -> (usize, usize)
-    ensures start { result.0 ≡ points_at survey.now }
-    ensures end { result.1 ≡ points_end survey.now }
-    ensures rises { points_at survey.now ≤ points_end survey.now }
+/// The bytes before a survey's point records, and those after them.
+fn around_points(survey: &Survey) -> (&[u8], &[u8])
+    ensures before { result.0.now ≡ take (points_at survey.now) survey.now }
+    ensures after { result.1.now ≡ drop (points_end survey.now) survey.now }
     ensures there { HasPoints survey.now }
 {
+    let bytes = survey.bytes();
     let header = survey.header();
     let start = header.points_at as usize;
-    let size = survey.records() as usize * usize::from(header.length);
-    (start, start + size)
+    let end = start + survey.records() as usize * usize::from(header.length);
+    (&bytes[..start], &bytes[end..])
 }
 
 /// Gives the point records with their classes, as many at once as there is room for.
-fn give_records<K: Sink>(
-    survey: &Survey,
-    classes: &Classes,
-    sink: &mut K,
-) -> Result<(), EndFault>
+fn give_records<K: Sink>(survey: &Survey, classes: &Classes, sink: &mut K) -> Result<(), EndFault>
     requires there { HasPoints survey.now }
     requires records { length classes.now ≡ record_count survey.now }
-    requires room { All (λ class. class ≤ top_class (format_of survey.now)) classes.now }
+    requires room { EachFits (format_of survey.now) classes.now }
     ensures given { OnOk result (Gains (K.got sink.old) (saved_records survey.now classes.now 0 (record_count survey.now)) (K.got sink.new)) }
     ensures part { OnErr result (GainsPart (K.got sink.old) (saved_records survey.now classes.now 0 (record_count survey.now)) (K.got sink.new)) }
     ensures calm { OnOk result (K.faults sink.new ≡ K.faults sink.old) }

@@ -1,7 +1,6 @@
 -- The length of a picture in bytes.
-use Rattle.std.proofs.Common.{◌≡◌, ℕ, zero, suc, ◌+◌, ◌*◌, ◌/◌, min, List, ◌++◌, length, length-append, Option, Some, None, refl, ◌∙◌, ap, arith}
+use Rattle.std.proofs.Common.{◌≡◌, ℕ, zero, suc, ◌+◌, ◌*◌, ◌/◌, min, List, length, length-append, Option, Some, None, refl, ◌∙◌, ap, arith}
 use Rattle.std.specs.List.{flat_map, range_with_len}
-use Rattle.view_base.specs.declared.colour.Rgb.{Rgb}
 use Rattle.view_base.specs.declared.colour.Colouring.{Colouring}
 use Rattle.view_base.specs.declared.colour.Colouring.TheVariants.{Class, Rgb16, Rgb8, Intensity}
 use Rattle.view_meaning.specs.Survey.{format_of, rgb_place}

@@ -24,8 +24,9 @@ pub struct Scene {
     pub workers: u32,
 }
 
-/// Appends the whole picture of a survey under these classes, as a binary PPM. A refusal is want
-/// of memory and leaves what was there as it was.
+/// Appends the whole picture of a survey under these classes, as a binary PPM of
+/// `ppm_length(width, height)` bytes. One loop draws it all, so nobody beside is told anything. A
+/// refusal is want of memory and leaves what was there as it was.
 pub fn picture<B: Beside>(
     alloc: Global,
     scene: &Scene,

@@ -39,7 +39,8 @@ fn plot_all(words: &mut [u64], survey: &Survey, camera: &Camera)
     ensures words { (cs : List ℕ) → EveryPasses survey.now cs (by_class camera.now) → IsFrame survey.now cs (by_class camera.now) words.new }
     ensures few { record_count survey.now ≤ 53687091 }
 {
-    for number in 0..survey.records() {
+    let records = survey.records();
+    for number in 0..records {
         let spot = project(camera, xyz(survey.point_bytes(number)));
         plot(words, spot, number);
     }

@@ -1,6 +1,5 @@
 -- A LAS file as numbers at offsets (LAS 1.4 R15, public header block and point data records).
-use Rattle.std.specs.Prelude.{◌≡◌, ℕ, ◌+◌, ◌*◌, ◌/◌, ◌%◌, ◌≤◌, ◌==◌, nat_le, if◌then◌else◌, Bool, ℤ, List, IsTrue, nat_eq, length, slice_index, codes, Option, Some, None}
-use Rattle.std.specs.List.{starts_with}
+use Rattle.std.specs.Prelude.{ℕ, ◌+◌, ◌*◌, ◌/◌, ◌%◌, ◌==◌, nat_le, if◌then◌else◌, Bool, ℤ, List, slice_index, Option, Some, None}
 use Rattle.std.specs.Int.{cast_signed, w32}
 use Rattle.byteorder.specs.Endian.{little_from}
 use Rattle.view_base.specs.declared.place.Point.{Point}
@@ -104,26 +103,3 @@ is_withheld format flags = if nat_le format 5 then flags / 128 % 2 == 1 else fla
 -- whether record i is withheld
 unfoldable pub withheld_of : List ℕ → ℕ → Bool
 withheld_of b i = is_withheld (format_of b) (u8_at b (record_at b i + 15))
-
--- the signature and the version of LAS 1.4
-pub record IsLas14 (b : List ℕ) : Type 0 where
-  pub signature : IsTrue (starts_with nat_eq b (codes "LASF"))
-  pub major : u8_at b 24 ≡ 1
-  pub minor : u8_at b 25 ≡ 4
-
--- the points stand straight after a header of 375 bytes in format 0 without extra bytes, all of them
--- are there, and there are no variable length records
-pub record HasPlainLayout (b : List ℕ) : Type 0 where
-  pub size : header_size b ≡ 375
-  pub offset : points_at b ≡ 375
-  pub no_vlrs : vlr_count b ≡ 0
-  pub no_evlrs : evlr_count b ≡ 0
-  pub format : format_of b ≡ 0
-  pub bytes_a_record : record_length b ≡ 20
-  pub whole_points : 375 + 20 * record_count b ≤ length b
-
--- a plain survey: a whole LAS 1.4 header with the plain layout
-pub record IsPlain (b : List ℕ) : Type 0 where
-  pub whole_header : 375 ≤ length b
-  pub version : IsLas14 b
-  pub layout : HasPlainLayout b

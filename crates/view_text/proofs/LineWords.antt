@@ -1,8 +1,8 @@
 -- One word more of a view, and its faults.
-use Rattle.std.proofs.Common.{◌≡◌, ℕ, suc, ◌+◌, ◌<◌, ◌≤◌, true, false, eqb, Some, None, List, [], ◌∷◌, length, get_or, drop, refl, sym, ap, ◌∙◌, inl, inr, arith, length-drop}
-use Rattle.std.proofs.lemmas.Bool.{ne_eqb, cases_eq, and_right, le-leb}
+use Rattle.std.proofs.Common.{◌≡◌, Bool, ℕ, zero, suc, ◌+◌, ◌<◌, ◌≤◌, true, false, eqb, Some, None, List, [], ◌∷◌, length, get_or, drop, refl, sym, ap, ◌∙◌, inl, inr, arith, length-drop}
+use Rattle.std.proofs.lemmas.Bool.{ne_eqb, eq-eqb, cases_eq, and_right, le-leb, true≢false}
 use Rattle.std.proofs.lemmas.List.{drop_more}
-use Rattle.std.specs.Prelude.{is_some}
+use Rattle.std.specs.Prelude.{is_some, if◌then◌else◌}
 use Rattle.view_base.specs.Text.{number}
 use Rattle.view_text.specs.declared.fault.TextFault.TheVariants.{Line}
 use Rattle.view_text.specs.ViewWords.{fits, fitting, words_fault}
@@ -42,13 +42,6 @@ read_more ws left others word k r next here =
       within = omega arith;
     }
 
--- the word at a place
-pub word_is : (ws left others : List (List ℕ)) (word : List ℕ) (k : ℕ) → IsRead ws left k → left ≡ word ∷ others → get_or ws k [] ≡ word
-word_is ws left others word k r next =
-    let longer : length (drop k ws) ≡ suc (length others) = ap length (sym r.left_are ∙ next) in
-    let cut : word ∷ others ≡ get_or ws k [] ∷ drop (k + 1) ws = sym next ∙ r.left_are ∙ drop_more ws k [] (omega (arith, longer, length-drop k ws)) in
-    cc
-
 -- twenty-two words that fit, and no other
 pub all_words : (ws left : List (List ℕ)) → IsRead ws left 22 → left ≡ [] → words_fault ws ≡ None
 unfolding words_fault
@@ -68,3 +61,44 @@ fits-further word = refl
 pub fits-number : (place : ℕ) (word : List ℕ) → 1 ≤ place → place ≤ 18 → fits place word ≡ is_some (number word)
 unfolding fits
 fits-number place word first last = rw (ne_eqb place 0 (omega arith), le-leb place 18 last) refl
+
+-- words that all fit are twenty-two
+pub words_fault-none : (ws : List (List ℕ)) → words_fault ws ≡ None → (length ws ≡ 22) × (fitting 0 ws ≡ 22)
+unfolding words_fault
+words_fault-none ws none =
+    elim (cases_eq (length ws) 22) [
+      | inl size ↦
+          elim (cases_eq (fitting 0 ws) 22) [
+            | inl fit ↦ (size, fit)
+            | inr other ↦ absurd (let no = rw (eq-eqb (length ws) 22 size, ne_eqb (fitting 0 ws) 22 other) at none in cc no)
+          ]
+      | inr other ↦ absurd (let no = rw (ne_eqb (length ws) 22 other) at none in cc no)
+    ]
+
+fitting-first : (here : Bool) (n m : ℕ) → (if here then 1 + n else 0) ≡ suc m → (here ≡ true) × (n ≡ m)
+fitting-first true n m is = (refl, omega (arith, is))
+fitting-first false n m is = absurd (omega (arith, is))
+
+-- of words that all fit, each fits its place
+fits-each : (ws : List (List ℕ)) (from k : ℕ) → fitting from ws ≡ length ws → k < length ws → fits (from + k) (get_or ws k []) ≡ true
+fits-each [] from k all within = absurd (omega (arith, within))
+fits-each (word ∷ others) from zero all within = let same : from + 0 ≡ from = omega arith in rw same (fitting-first (fits from word) (fitting (from + 1) others) (length others) all).0
+fits-each (word ∷ others) from (suc k) all within =
+    let same : from + suc k ≡ from + 1 + k = omega arith in
+    rw same (fits-each others (from + 1) k (fitting-first (fits from word) (fitting (from + 1) others) (length others) all).1 (omega (arith, within)))
+
+-- the word at each of the places 1 to 18 is a number
+pub number_in-whole : (ws : List (List ℕ)) (k : ℕ) → words_fault ws ≡ None → k < 18 → is_some (number (get_or ws (1 + k) [])) ≡ true
+number_in-whole ws k none within =
+    let whole = words_fault-none ws none in
+    let same : 0 + (1 + k) ≡ 1 + k = omega arith in
+    let fit = rw same at (fits-each ws 0 (1 + k) (whole.1 ∙ sym whole.0) (omega (arith, whole.0, within))) in
+    sym (fits-number (1 + k) (get_or ws (1 + k) []) (omega arith) (omega (arith, within))) ∙ fit
+
+-- a place where a word fits is one of the twenty-two
+pub fits-within : (place : ℕ) (word : List ℕ) → place ≤ 22 → fits place word ≡ true → place < 22
+fits-within place word few here =
+    elim (cases_eq place 22) [
+      | inl last ↦ absurd (true≢false (sym here ∙ rw last (fits-further word)))
+      | inr other ↦ omega arith
+    ]

@@ -63,9 +63,9 @@ abbrev pub unless_limit : Option CameraLimit → List ℤ → Result View TextFa
 unless_limit (Some limit) n = Err (Limit limit)
 unless_limit None n = Ok (by_class (lens_of orthographic n))
 
--- the view of words that fit, or why it can't be drawn
-abbrev pub fitting_view : List (List ℕ) → Result View TextFault
-fitting_view ws = if is_built ws then unless_limit (first_outside orthographic (camera_numbers ws)) (camera_numbers ws) else Err NotYet
+-- the view of words that fit, by whether it is drawn so far and by its camera's numbers, or why it can't be drawn
+abbrev pub view_by : Bool → List ℤ → Result View TextFault
+view_by built n = if built then unless_limit (first_outside orthographic n) n else Err NotYet
 
 -- what this fault makes of a view
 abbrev pub unless_fault : Option TextFault → Result View TextFault → Result View TextFault
@@ -75,4 +75,4 @@ unless_fault None view = view
 -- the view of words, or why it is none: first a word that doesn't fit, then one that isn't drawn so far, then
 -- a camera number out of its range
 unfoldable pub view_of : List (List ℕ) → Result View TextFault
-view_of ws = unless_fault (words_fault ws) (fitting_view ws)
+view_of ws = unless_fault (words_fault ws) (view_by (is_built ws) (camera_numbers ws))

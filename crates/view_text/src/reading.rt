@@ -6,8 +6,7 @@ ghost use Rattle.view_text.specs.Reading.{IsRead};
 
 use crate::fault::TextFault;
 use crate::fitting::{fits_view, is_built_view};
-use crate::view_spec::ViewSpec;
-use int_camera::{Camera, CameraNumbers, Kind};
+use crate::view_spec::{ViewSpec, view_by};
 use view_base::{next_word, read_number};
 
 /// The words of a view, read one after another: each one taken fits its place.
@@ -130,19 +129,9 @@ pub fn read_view(line: &[u8]) -> Result<ViewSpec, TextFault>
     ensures view { result ≡ view_of (words line.now) }
     ensures built { IfOk result (λ v. v ≡ by_class v.camera) }
 {
-    let Said { built, numbers } = match read_words(line) {
-        Ok(said) => said,
-        Err(fault) => return Err(fault),
-    };
-    if !built {
-        return Err(TextFault::NotYet);
-    }
-    match Camera::new(&CameraNumbers {
-        kind: Kind::Ortho,
-        n: numbers,
-    }) {
-        Ok(camera) => Ok(ViewSpec::by_class(camera)),
-        Err(limit) => Err(TextFault::Limit(limit)),
+    match read_words(line) {
+        Ok(said) => view_by(said.built, &said.numbers),
+        Err(fault) => Err(fault),
     }
 }
 

@@ -1,8 +1,10 @@
-ghost use Rattle.std.specs.Prelude.{◌≡◌};
+ghost use Rattle.std.specs.Prelude.{◌≡◌, IfOk};
 ghost use Rattle.view_meaning.specs.Picture.{by_class};
+ghost use Rattle.view_text.specs.ViewWords.{view_by};
 
+use crate::fault::TextFault;
 use class_bits::{ClassSet, Filter};
-use int_camera::Camera;
+use int_camera::{Camera, CameraNumbers, Kind};
 use std::marker::Model;
 use view_base::Colouring;
 
@@ -41,5 +43,22 @@ impl ViewSpec {
                 hide_withheld: false,
             },
         }
+    }
+}
+
+/// The view of words that fit, by whether it is drawn so far and by its camera's numbers.
+pub(crate) fn view_by(built: bool, numbers: &[i128; 18]) -> Result<ViewSpec, TextFault>
+    ensures view { result ≡ view_by built numbers.now }
+    ensures built { IfOk result (λ v. v ≡ by_class v.camera) }
+{
+    if !built {
+        return Err(TextFault::NotYet);
+    }
+    match Camera::new(&CameraNumbers {
+        kind: Kind::Ortho,
+        n: *numbers,
+    }) {
+        Ok(camera) => Ok(ViewSpec::by_class(camera)),
+        Err(limit) => Err(TextFault::Limit(limit)),
     }
 }

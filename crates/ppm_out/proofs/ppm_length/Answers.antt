@@ -1,5 +1,4 @@
-use Rattle.std.proofs.Common.{◌≡◌, ◌+◌, ◌*◌, ◌∙◌, ℕ, ap, arith, length, decimal}
-use Rattle.view_meaning.specs.Picture.{ppm_header}
+use Rattle.std.proofs.Common.{◌≡◌, ◌*◌, ◌∙◌, ℕ, ap, arith}
 use Rattle.ppm_out.proofs.Lengths.{length-ppm_header}
 use Rattle.ppm_out.proofs.ppm_length.Goals as goal
 

@@ -4,7 +4,7 @@ use Rattle.view_meaning.specs.Classes.{Edit, class_after}
 use Rattle.class_pages.specs.Changed.{after_edit}
 use mir.Val.{bool_byte}
 use Rattle.std.specs.List.{range_with_len}
-use Rattle.class_pages.proofs.Steps.{IsMadeBelow, count_below, made_nothing, made_more, made_all, counted_more, changed_counted, after_edit-classes}
+use Rattle.class_pages.proofs.Steps.{IsMadeBelow, made_nothing, made_more, made_all, counted_more, changed_counted, after_edit-classes}
 use Rattle.class_pages.proofs.Fitting.{after_edit-fits}
 use Rattle.class_pages.specs.Fitting.{EachFits}
 use Rattle.view_meaning.proofs.Reading.{point-from_part}

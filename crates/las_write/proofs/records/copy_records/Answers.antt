@@ -1,4 +1,4 @@
-use Rattle.std.proofs.Common.{◌≡◌, ℕ, ◌+◌, ◌*◌, ◌≤◌, length, arith, ap, ◌∙◌}
+use Rattle.std.proofs.Common.{◌≡◌, ℕ, ◌*◌, arith, ap, ◌∙◌}
 use Rattle.view_meaning.specs.Survey.{record_length}
 use Rattle.las_write.proofs.Runs.{run_within, read_records-copied}
 use Rattle.las_write.proofs.records.copy_records.Goals as goal

@@ -1,4 +1,4 @@
-use Rattle.std.proofs.Common.{◌≡◌, ℕ, ◌+◌, ◌*◌, ◌<◌, ◌≤◌, List, length, get_or, slice_set, arith, refl, sym, ap, ◌∙◌}
+use Rattle.std.proofs.Common.{◌≡◌, ℕ, ◌+◌, ◌*◌, List, get_or, slice_set, arith, ap, ◌∙◌}
 use Rattle.std.proofs.lemmas.List.{length-set}
 use Rattle.view_meaning.specs.Classes.{with_class}
 use Rattle.view_meaning.specs.Survey.{format_of, record_length, class_place}
@@ -10,8 +10,8 @@ loop-k-preserved c =
     let b : List ℕ = c.args.survey.now in
     let cs : List ℕ = c.args.classes.now in
     let k = c.loop-k.k in
-    let format : c.header.result.now.format ≡ format_of b = c.header.ensures.fields.format in
-    let size : c.from-size.result ≡ record_length b = c.from-size.ensures ∙ c.header-2.ensures.fields.bytes_a_record in
+    let format : c.header-header.result.now.format ≡ format_of b = c.header-header.ensures.fields.format in
+    let size : c.from-size.result ≡ record_length b = c.from-size.ensures ∙ c.header-header.ensures.fields.bytes_a_record in
     let place : c.class_place-place.result ≡ class_place (format_of b) = c.class_place-place.ensures ∙ ap class_place format in
     let at : k * c.from-size.result + c.class_place-place.result ≡ k * record_length b + class_place (format_of b) =
     ap (λ (n : ℕ). k * n + c.class_place-place.result) size ∙ ap (λ (n : ℕ). k * record_length b + n) place in

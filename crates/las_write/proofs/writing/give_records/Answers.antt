@@ -1,4 +1,4 @@
-use Rattle.std.proofs.Common.{◌≡◌, ℕ, ◌+◌, ◌≤◌, arith}
+use Rattle.std.proofs.Common.{arith}
 use Rattle.std.proofs.lemmas.Grind.{common_steps}
 use Rattle.las_write.proofs.Fronts.{on_err, got_run, part_of_run}
 use Rattle.las_write.proofs.writing.give_records.Goals as goal

@@ -1,4 +1,4 @@
-use Rattle.std.proofs.Common.{◌≡◌, ◌≤◌, ◌-◌, length}
+use Rattle.std.proofs.Common.{◌≡◌, ◌≤◌, ◌-◌}
 use Rattle.las_write.specs.Points.{saved_records}
 use Rattle.view_ends.specs.Ends.{Gains}
 use Rattle.las_write.proofs.writing.give_records.Given as goal

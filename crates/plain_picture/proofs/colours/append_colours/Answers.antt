@@ -1,4 +1,4 @@
-use Rattle.std.proofs.Common.{◌≡◌, ◌*◌, ◌+◌, ◌++◌, ◌≤◌, IsOk, sym, List, ℕ, length, length-append, ◌∙◌, ap, arith, rules}
+use Rattle.std.proofs.Common.{◌≡◌, ◌*◌, ◌+◌, ◌++◌, ◌≤◌, IsOk, sym, length, length-append, ◌∙◌, ap, arith, rules}
 use Rattle.std.specs.Slice.Iter.{chunks_rest}
 use Rattle.view_base.specs.declared.colour.Colouring.TheVariants.{Class}
 use Rattle.view_meaning.specs.Frame.{word_colour}

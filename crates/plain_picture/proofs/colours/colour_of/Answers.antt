@@ -1,6 +1,5 @@
-use Rattle.std.proofs.Common.{◌∙◌, length, ap}
-use Rattle.view_meaning.specs.Picture.{class_colour}
-use Rattle.plain_picture.proofs.Colouring.{named_below, word_colour-class}
+use Rattle.std.proofs.Common.{◌∙◌}
+use Rattle.plain_picture.proofs.Colouring.{word_colour-class}
 use Rattle.plain_picture.proofs.colours.colour_of.Goals as goal
 
 pub returns : goal.returns

@@ -11,10 +11,10 @@ loop-number-init c = λ cs every. subst (λ (l : List ℕ). IsFrameBelow 0 c.arg
 pub loop-number-preserved : goal.loop-number-preserved
 loop-number-preserved c = λ cs every.
     plotted_more c.args.survey.now cs c.args.camera.now c.loop-number.number _ c.loop-number.words _ _ _ _ every
-    (omega (arith, c.loop-number-test.true, c.records-number-end.ensures.count)) (omega (arith, c.records-number-end.ensures)) c.requires.deepest (omega arith)
+    (omega (arith, c.loop-number-test.true, c.records-records.ensures.count)) (omega (arith, c.records-records.ensures)) c.requires.deepest (omega arith)
     c.point_bytes.ensures.least c.point_bytes.ensures.bytes c.xyz.ensures c.project-spot.ensures.spot c.plot.ensures (c.loop-number.invariant cs every)
 
 pub returns-clause-words : goal.returns-clause-words
 returns-clause-words c = λ cs every.
-    let last : c.loop-number.number ≡ record_count c.args.survey.now = omega (arith, c.records-number-end.ensures.count) in
+    let last : c.loop-number.number ≡ record_count c.args.survey.now = omega (arith, c.records-records.ensures.count) in
     frame_ends _ _ _ _ (subst (λ (k : ℕ). IsFrameBelow k c.args.survey.now cs (by_class c.args.camera.now) c.loop-number.words) last (c.loop-number.invariant cs every))

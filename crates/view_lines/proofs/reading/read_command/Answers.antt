@@ -1,4 +1,4 @@
-use Rattle.std.proofs.Common.{◌≡◌, ◌∙◌, sym}
+use Rattle.std.proofs.Common.{◌∙◌, sym}
 use Rattle.std.proofs.lemmas.List.{take_rest}
 use Rattle.view_lines.proofs.CommandOf.{bytes_eq-answered, command_of-wordless, command_of-view, command_of-edit, command_of-save, command_of-other}
 use Rattle.view_lines.proofs.reading.read_command.Goals as goal

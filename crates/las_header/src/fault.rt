@@ -1,0 +1,45 @@
+use std::fmt;
+
+/// The first condition on the public header block that a file does not meet (LAS 1.4 R15, public
+/// header block), with the numbers that show it.
+#[derive(Clone, Copy, Debug, PartialEq, Eq)]
+pub enum HeaderFault {
+    /// The file has fewer bytes than the block's 375: so many.
+    TooShort { have: u64 },
+    /// The file does not begin with `LASF`.
+    Signature,
+    /// The version is not 1.4.
+    Version { major: u8, minor: u8 },
+    /// The header size is below 375.
+    HeaderSize { size: u16 },
+    /// The format byte is 128 or more: the points are compressed.
+    Compressed { byte: u8 },
+    /// The point data record format is above 10.
+    Format { byte: u8 },
+    /// The point data record length is below the least of the format.
+    RecordLength { have: u16, least: u16 },
+    /// The offset to point data is below the header size.
+    Offset { offset: u32 },
+}
+
+impl fmt::Display for HeaderFault {
+    ghost use Rattle.std.specs.Prelude.{Some};
+    ghost use Rattle.las_header.specs.Fault.{header_text};
+
+    ghost output = { λ fault. Some (header_text fault) };
+
+    fn fmt<W: fmt::Write>(&self, f: &mut fmt::Formatter<W>) -> fmt::Result {
+        match self {
+            HeaderFault::TooShort { have } => write!(f, "only {have} bytes"),
+            HeaderFault::Signature => f.write_str("no LASF signature"),
+            HeaderFault::Version { major, minor } => write!(f, "version {major}.{minor}"),
+            HeaderFault::HeaderSize { size } => write!(f, "header size {size}"),
+            HeaderFault::Compressed { byte } => write!(f, "compressed points, format byte {byte}"),
+            HeaderFault::Format { byte } => write!(f, "point format {byte}"),
+            HeaderFault::RecordLength { have, least } => {
+                write!(f, "record length {have}, least {least}")
+            }
+            HeaderFault::Offset { offset } => write!(f, "point offset {offset}"),
+        }
+    }
+}

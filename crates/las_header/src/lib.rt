@@ -1,0 +1,13 @@
+//! The public header block of a LAS file: its fields, the numbers at its offsets, and the first
+//! condition on them that a file does not meet.
+#![tactic(auto)]
+
+mod fault;
+mod header;
+mod number;
+mod reading;
+
+pub use fault::HeaderFault;
+pub use header::Header;
+pub use number::{u16_in, u32_in, u64_in};
+pub use reading::{least_length, read_header};

@@ -1,0 +1,3 @@
+pub mod Extended
+pub mod Failing
+pub mod Walked

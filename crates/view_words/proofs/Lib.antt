@@ -1,0 +1,7 @@
+pub mod Examples
+pub mod Places
+pub mod Refusals
+pub mod Lines
+pub mod Names
+pub mod Numbers
+pub mod RowNames

@@ -1,0 +1,65 @@
+-- Tests of the places of a range: the first that passes, and whether one does.
+use Rattle.std.proofs.Common.{◌≡◌, ℕ, zero, suc, ◌+◌, ◌<◌, ◌≤◌, List, [], ◌∷◌, Option, Some, None, Bool, true, false, cond, inl, inr, refl, sym, ◌∙◌, ap, arith}
+use Rattle.std.proofs.lemmas.Bool.{cases_eq}
+use Rattle.std.proofs.Math.Bool.{or-true}
+use Rattle.std.specs.List.{find, list_any, range_with_len}
+
+-- where no place passes
+pub find-range_none : (test : ℕ → Bool) (a n : ℕ) → ((k : ℕ) → a ≤ k → k < a + n → test k ≡ false) → find test (range_with_len a n) ≡ None
+find-range_none test a zero none = refl
+find-range_none test a (suc n) none =
+    rw (none a (omega arith) (omega arith)) (find-range_none test (a + 1) n (λ k from below. none k (omega arith) (omega arith)))
+
+-- the first place that passes
+pub find-range_first : (test : ℕ → Bool) (a n at : ℕ) → a ≤ at → at < a + n → ((k : ℕ) → a ≤ k → k < at → test k ≡ false) → test at ≡ true → find test (range_with_len a n) ≡ Some at
+find-range_first test a zero at from below before here = absurd (omega arith)
+find-range_first test a (suc n) at from below before here =
+    elim (cases_eq a at) [
+      | inl same ↦ let passes : test a ≡ true = ap test same ∙ here in rw passes (ap (λ (k : ℕ). Some k) same)
+      | inr other ↦ rw (before a (omega arith) (omega arith)) (find-range_first test (a + 1) n at (omega arith) (omega arith) (λ k f b. before k (omega arith) b) here)
+    ]
+
+two_finds : (x : ℕ) (o : Option ℕ) (b : Bool) → cond b (Some x) o ≡ None → (b ≡ false) × (o ≡ None)
+two_finds x o true found = absurd (cc found)
+two_finds x o false found = (refl, found)
+
+-- where none is found, none passes
+pub range_none : (test : ℕ → Bool) (a n : ℕ) → find test (range_with_len a n) ≡ None → (k : ℕ) → a ≤ k → k < a + n → test k ≡ false
+range_none test a zero none k from below = absurd (omega arith)
+range_none test a (suc n) none k from below =
+    elim (cases_eq a k) [
+      | inl same ↦ ap test (sym same) ∙ (two_finds a (find test (range_with_len (a + 1) n)) (test a) none).0
+      | inr other ↦ range_none test (a + 1) n (two_finds a (find test (range_with_len (a + 1) n)) (test a) none).1 k (omega arith) (omega arith)
+    ]
+
+found_first : {X : Type 0} (test : X → Bool) (y x : X) (o : Option X) (b : Bool) → test y ≡ b → cond b (Some y) o ≡ Some x → (o ≡ Some x → test x ≡ true) → test x ≡ true
+found_first test y x o true is found later = let e : y ≡ x = cc found in ap test (sym e) ∙ is
+found_first test y x o false is found later = later found
+
+-- what is found of a list passes
+pub find_passes : {X : Type 0} (test : X → Bool) (xs : List X) (x : X) → find test xs ≡ Some x → test x ≡ true
+find_passes test [] x found = absurd (cc found)
+find_passes test (y ∷ ys) x found = found_first test y x (find test ys) (test y) refl found (λ later. find_passes test ys x later)
+
+-- where no place passes
+pub any-range_none : (test : ℕ → Bool) (a n : ℕ) → ((k : ℕ) → a ≤ k → k < a + n → test k ≡ false) → list_any test (range_with_len a n) ≡ false
+any-range_none test a zero none = refl
+any-range_none test a (suc n) none =
+    rw (none a (omega arith) (omega arith)) (any-range_none test (a + 1) n (λ k from below. none k (omega arith) (omega arith)))
+
+-- a place that passes
+pub any-range_some : (test : ℕ → Bool) (a n at : ℕ) → a ≤ at → at < a + n → test at ≡ true → list_any test (range_with_len a n) ≡ true
+any-range_some test a zero at from below here = absurd (omega arith)
+any-range_some test a (suc n) at from below here =
+    elim (cases_eq a at) [
+      | inl same ↦ let passes : test a ≡ true = ap test same ∙ here in rw passes refl
+      | inr other ↦ rw (any-range_some test (a + 1) n at (omega arith) (omega arith) here) (or-true (test a))
+    ]
+
+-- where none passes, each fails
+pub none_passes : (test : ℕ → Bool) (n k : ℕ) → list_any test (range_with_len 0 n) ≡ false → k < n → test k ≡ false
+none_passes test n k none below = either (test k) refl
+  where
+    either : (b : Bool) → test k ≡ b → b ≡ false
+    either true is = absurd (cc (none, any-range_some test 0 n k (omega arith) (omega arith) is))
+    either false is = refl

@@ -1,0 +1,141 @@
+-- The words of the command line, without the program's name, by the rows of this table:
+--   draw SURVEY OUT WORKERS and the 22 words of a view
+--   info SURVEY OUT
+--   trial START N WORKERS OUT
+--   serve SURVEY WORKERS JOURNAL IN1 OUT1 .., with 1 to 16 pairs
+use Rattle.std.specs.Prelude.{◌≡◌, ℕ, ◌-◌, ◌%◌, ◌^◌, ◌==◌, ◌&&◌, ◌||◌, not, nat_le, ℤ, pos, negsuc, Bool, true, false, List, [], ◌∷◌, map, length, drop, String, string_bytes, codes, Option, Some, None, is_none, if◌then◌else◌}
+use Rattle.std.specs.List.{find, list_any, range_with_len}
+use Rattle.std.specs.Option.{option_or}
+use Rattle.std.specs.Str.{bytes_eq}
+use Rattle.view_base.specs.Text.{number}
+use Rattle.view_text.specs.ViewWords.{fits, word_at}
+use Rattle.view_words.specs.declared.row.Row.{Row}
+use Rattle.view_words.specs.declared.row.Row.TheVariants.{Draw, Info, Trial, Serve}
+use Rattle.view_words.specs.declared.kind.WordKind.{WordKind}
+use Rattle.view_words.specs.declared.kind.WordKind.TheVariants.{Command, ReadName, WrittenName, Workers, Start, Records, ViewWord, NoWord}
+
+-- the texts of the words
+abbrev pub texts : {Y : Type 0} → List (String Y) → List (List ℕ)
+texts words = map string_bytes words
+
+-- the word with which a row begins
+abbrev pub command : Row → List ℕ
+command Draw = codes "draw"
+command Info = codes "info"
+command Trial = codes "trial"
+command Serve = codes "serve"
+
+-- all rows
+abbrev pub all_rows : List Row
+all_rows = Draw ∷ Info ∷ Trial ∷ Serve ∷ []
+
+-- the row of these with whose command the words begin, or none
+abbrev pub row_in : List Row → List (List ℕ) → Option Row
+row_in rows ws = find (λ row. bytes_eq (word_at ws 0) (command row)) rows
+
+-- what a row has at a place, from 0
+unfoldable pub kind_at : Row → ℕ → WordKind
+kind_at Draw k =
+    if k == 0 then Command else if k == 1 then ReadName else if k == 2 then WrittenName else if k == 3 then Workers
+    else if nat_le k 25 then ViewWord (k - 4) else NoWord
+kind_at Info k =
+    if k == 0 then Command else if k == 1 then ReadName else if k == 2 then WrittenName else NoWord
+kind_at Trial k =
+    if k == 0 then Command else if k == 1 then Start else if k == 2 then Records else if k == 3 then Workers
+    else if k == 4 then WrittenName else NoWord
+kind_at Serve k =
+    if k == 0 then Command else if k == 1 then ReadName else if k == 2 then Workers else if k == 3 then WrittenName
+    else if nat_le k 35 then (if k % 2 == 0 then ReadName else WrittenName) else NoWord
+
+-- the natural number that a number is, where it lies within these limits
+abbrev pub within : ℕ → ℕ → Option ℤ → Option ℕ
+within least greatest None = None
+within least greatest (Some (pos n)) = if nat_le least n && nat_le n greatest then Some n else None
+within least greatest (Some (negsuc n)) = None
+
+-- the number that a word is, where it is one within these limits
+abbrev pub number_within : ℕ → ℕ → List ℕ → Option ℕ
+number_within least greatest word = within least greatest (number word)
+
+-- whether an earlier name bars the same name, by what the two are for: `-` may be read once and written once
+abbrev pub bars : WordKind → WordKind → List ℕ → Bool
+bars ReadName ReadName name = true
+bars WrittenName WrittenName name = true
+bars ReadName WrittenName name = not (bytes_eq name (codes "-"))
+bars WrittenName ReadName name = not (bytes_eq name (codes "-"))
+bars _ _ name = false
+
+-- whether the name at a place j bars the one at a later place k: it is the same name, and not a `-` read and a `-` written
+abbrev pub barred : Row → List (List ℕ) → ℕ → ℕ → Bool
+barred row ws k j = bytes_eq (word_at ws j) (word_at ws k) && bars (kind_at row j) (kind_at row k) (word_at ws k)
+
+-- whether an earlier name of the line bars the one at a place
+unfoldable pub is_taken : Row → List (List ℕ) → ℕ → Bool
+is_taken row ws k = list_any (barred row ws k) (range_with_len 0 k)
+
+-- whether the name at a place is refused: it is empty, or an earlier name bars it
+abbrev pub is_refused_name : Row → List (List ℕ) → ℕ → Bool
+is_refused_name row ws k = bytes_eq (word_at ws k) [] || is_taken row ws k
+
+-- whether the word at a place is refused where this is what its row has there
+abbrev pub is_refused_as : WordKind → Row → List (List ℕ) → ℕ → Bool
+is_refused_as Command row ws k = false
+is_refused_as ReadName row ws k = is_refused_name row ws k
+is_refused_as WrittenName row ws k = is_refused_name row ws k
+is_refused_as Workers row ws k = is_none (number_within 1 64 (word_at ws k))
+is_refused_as Start row ws k = is_none (number_within 0 (2 ^ 64 - 1) (word_at ws k))
+is_refused_as Records row ws k = is_none (number_within 0 (2 ^ 23) (word_at ws k))
+is_refused_as (ViewWord place) row ws k = not (fits place (word_at ws k))
+is_refused_as NoWord row ws k = true
+
+-- whether the word at a place is refused in a line that begins with this row's command
+unfoldable pub is_refused : Row → List (List ℕ) → ℕ → Bool
+is_refused row ws k = is_refused_as (kind_at row k) row ws k
+
+-- the place of the first refused word of a row, or none
+unfoldable pub first_refused : Row → List (List ℕ) → Option ℕ
+first_refused row ws = find (is_refused row ws) (range_with_len 0 (length ws))
+
+-- whether so many words are all that a row needs: `serve` needs a pair, and each pair whole
+abbrev pub is_whole : Row → ℕ → Bool
+is_whole Draw n = n == 26
+is_whole Info n = n == 3
+is_whole Trial n = n == 5
+is_whole Serve n = nat_le 6 n && n % 2 == 0
+
+-- the fewest words that a row has
+abbrev pub least_words : Row → ℕ
+least_words Draw = 26
+least_words Info = 3
+least_words Trial = 5
+least_words Serve = 6
+
+-- the number of words where a row needs more of them, or none
+abbrev pub missing : Row → List (List ℕ) → Option ℕ
+missing row ws = if is_whole row (length ws) then None else Some (length ws)
+
+-- the first refused word of a row, or the number of words where more are needed, or none
+unfoldable pub badword_in : Row → List (List ℕ) → Option ℕ
+badword_in row ws = option_or (first_refused row ws) (missing row ws)
+
+-- the same of the row that the words begin, and place 0 where they begin none
+abbrev pub badword_of : Option Row → List (List ℕ) → Option ℕ
+badword_of None ws = Some 0
+badword_of (Some row) ws = badword_in row ws
+
+-- the first refused word of a command line by the rows that are taken, or the number of words where more are needed, or none
+unfoldable pub badword : List Row → List (List ℕ) → Option ℕ
+badword rows ws = badword_of (row_in rows ws) ws
+
+-- the words of a row that fit
+abbrev pub IsLine : Row → List (List ℕ) → Type 0
+IsLine row ws = badword (row ∷ []) ws ≡ None
+
+-- the place of the number of workers, in the rows that have one
+abbrev pub workers_place : Row → ℕ
+workers_place Serve = 2
+workers_place _ = 3
+
+-- the words of a view in those of a `draw`
+abbrev pub view_words : List (List ℕ) → List (List ℕ)
+view_words ws = drop 4 ws

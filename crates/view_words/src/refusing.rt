@@ -1,0 +1,131 @@
+ghost use Rattle.std.specs.Prelude.{◌≡◌, ◌<◌, length};
+ghost use Rattle.view_words.specs.CommandLine.{texts, number_within, bars, barred, is_taken, is_refused_name, is_refused, is_whole, first_refused, badword_in};
+
+use crate::fields::text_at;
+use crate::kind::{WordKind, kind_at};
+use crate::row::Row;
+use view_base::read_number;
+use view_text::fits_view;
+
+/// The greatest number of workers.
+pub(crate) const MAX_WORKERS: u64 = 64;
+
+/// The greatest number of records of a trial, 2^23.
+pub(crate) const MAX_RECORDS: u64 = 8388608;
+
+/// The number that a word is, where it is one from `least` to `greatest`.
+pub(crate) fn number_within(least: u64, greatest: u64, word: &str) -> Option<u64>
+    ensures { result ≡ number_within least greatest word.now }
+{
+    match read_number(word.as_bytes()) {
+        Some(n) if i128::from(least) <= n && n <= i128::from(greatest) => Some(n as u64),
+        _ => None,
+    }
+}
+
+/// Whether a name that stands on a line bars the same name later there, by what the two are for:
+/// `-` may be read once and written once.
+fn bars(earlier: WordKind, later: WordKind, name: &str) -> bool
+    ensures { result ≡ bars earlier later name.now }
+{
+    match earlier {
+        WordKind::ReadName => match later {
+            WordKind::ReadName => true,
+            WordKind::WrittenName => name != "-",
+            _ => false,
+        },
+        WordKind::WrittenName => match later {
+            WordKind::ReadName => name != "-",
+            WordKind::WrittenName => true,
+            _ => false,
+        },
+        _ => false,
+    }
+}
+
+/// Whether the name at one place bars the name at a later one, `at`.
+fn is_barred(row: Row, words: &[String], at: usize, earlier: usize) -> bool
+    requires at { at < length words.now }
+    requires earlier { earlier < length words.now }
+    ensures { result ≡ barred row (texts words.now) at earlier }
+{
+    let name = text_at(words, at);
+    text_at(words, earlier) == name && bars(kind_at(row, earlier), kind_at(row, at), name)
+}
+
+/// Whether an earlier name of the line bars the name at a place.
+fn is_taken(row: Row, words: &[String], at: usize) -> bool
+    requires { at < length words.now }
+    ensures { result ≡ is_taken row (texts words.now) at }
+{
+    for earlier in 0..at {
+        if is_barred(row, words, at, earlier) {
+            return true;
+        }
+    }
+    false
+}
+
+/// Whether the name at a place is refused.
+fn is_refused_name(row: Row, words: &[String], at: usize) -> bool
+    requires { at < length words.now }
+    ensures { result ≡ is_refused_name row (texts words.now) at }
+{
+    text_at(words, at).is_empty() || is_taken(row, words, at)
+}
+
+/// Whether the word at a place is refused.
+fn is_refused(row: Row, words: &[String], at: usize) -> bool
+    requires { at < length words.now }
+    ensures { result ≡ is_refused row (texts words.now) at }
+{
+    let word = text_at(words, at);
+    match kind_at(row, at) {
+        WordKind::Command => false,
+        WordKind::ReadName => is_refused_name(row, words, at),
+        WordKind::WrittenName => is_refused_name(row, words, at),
+        WordKind::Workers => number_within(1, MAX_WORKERS, word).is_none(),
+        WordKind::Start => number_within(0, u64::MAX, word).is_none(),
+        WordKind::Records => number_within(0, MAX_RECORDS, word).is_none(),
+        WordKind::ViewWord(place) => !fits_view(place as usize, word.as_bytes()),
+        WordKind::NoWord => true,
+    }
+}
+
+/// The first word that a row refuses, by its place from 0.
+fn first_refused(row: Row, words: &[String]) -> Option<u32>
+    ensures { result ≡ first_refused row (texts words.now) }
+{
+    for at in 0..words.len() {
+        if is_refused(row, words, at) {
+            return Some(at as u32);
+        }
+    }
+    None
+}
+
+/// Whether so many words are all that a row needs.
+fn is_whole(row: Row, count: usize) -> bool
+    ensures { result ≡ is_whole row count }
+{
+    match row {
+        Row::Draw => count == 26,
+        Row::Info => count == 3,
+        Row::Trial => count == 5,
+        Row::Serve => count >= 6 && count % 2 == 0,
+    }
+}
+
+/// The first word that a row refuses, or the number of words where more are needed.
+pub(crate) fn badword_in(row: Row, words: &[String]) -> Option<u32>
+    ensures { result ≡ badword_in row (texts words.now) }
+{
+    if let Some(at) = first_refused(row, words) {
+        return Some(at);
+    }
+    if is_whole(row, words.len()) {
+        None
+    } else {
+        Some(words.len() as u32)
+    }
+}
