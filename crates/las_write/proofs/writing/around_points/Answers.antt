@@ -1,4 +1,4 @@
-use Rattle.std.proofs.Common.{◌≡◌, ℕ, ◌+◌, ◌-◌, ◌*◌, List, length, take, drop, arith, ap, ◌∙◌}
+use Rattle.std.proofs.Common.{◌≡◌, ℕ, ◌+◌, ◌-◌, ◌*◌, ◌≤◌, List, length, take, drop, arith, ap, ◌∙◌}
 use Rattle.std.proofs.lemmas.List.{take_rest}
 use Rattle.view_meaning.specs.Survey.{points_at, points_end, record_count, record_length}
 use Rattle.las_write.proofs.Fitting.{HasPoints-fitting}
@@ -17,6 +17,31 @@ end_is : (b : List ℕ) (start records size : ℕ) → start ≡ points_at b →
 unfolding points_end
 end_is b start records size begin count same =
     ap (λ (k : ℕ). k + records * size) begin ∙ ap (λ (k : ℕ). points_at b + k * size) count ∙ ap (λ (k : ℕ). points_at b + record_count b * k) same
+
+-- the points' end is within the bytes, from the header's fields
+end_within : (b bytes : List ℕ) (start records size : ℕ) → bytes ≡ b → start ≡ points_at b → records ≡ record_count b → size ≡ record_length b → points_end b ≤ length b → start + records * size ≤ length bytes
+end_within b bytes start records size all begin count same within =
+    let end : start + records * size ≡ points_end b = end_is b start records size begin count same in
+    let long : length bytes ≡ length b = ap length all in
+    omega (arith, end, long, within)
+
+pub overflow_mul-end : goal.overflow_mul-end
+overflow_mul-end c =
+    let within = end_within c.args.survey.now _ _ _ _ c.bytes-bytes.ensures.bytes c.header-header.ensures.fields.points_at c.records.ensures.count (c.from.ensures ∙ c.header-header.ensures.fields.bytes_a_record) c.bytes-bytes.ensures.points in
+    let long : length c.bytes-bytes.result.now ≡ length c.args.survey.now = ap length c.bytes-bytes.ensures.bytes in
+    omega (arith, within, long, c.bytes-bytes.ensures.short)
+
+pub overflow_add-end : goal.overflow_add-end
+overflow_add-end c =
+    let within = end_within c.args.survey.now _ _ _ _ c.bytes-bytes.ensures.bytes c.header-header.ensures.fields.points_at c.records.ensures.count (c.from.ensures ∙ c.header-header.ensures.fields.bytes_a_record) c.bytes-bytes.ensures.points in
+    let long : length c.bytes-bytes.result.now ≡ length c.args.survey.now = ap length c.bytes-bytes.ensures.bytes in
+    omega (arith, within, long, c.bytes-bytes.ensures.short)
+
+pub slice_bounds-result-count : goal.slice_bounds-result-count
+slice_bounds-result-count c = end_within c.args.survey.now _ _ _ _ c.bytes-bytes.ensures.bytes c.header-header.ensures.fields.points_at c.records.ensures.count (c.from.ensures ∙ c.header-header.ensures.fields.bytes_a_record) c.bytes-bytes.ensures.points
+
+pub slice_bounds-result-start : goal.slice_bounds-result-start
+slice_bounds-result-start c = end_within c.args.survey.now _ _ _ _ c.bytes-bytes.ensures.bytes c.header-header.ensures.fields.points_at c.records.ensures.count (c.from.ensures ∙ c.header-header.ensures.fields.bytes_a_record) c.bytes-bytes.ensures.points
 
 pub returns-clause-before : goal.returns-clause-before
 returns-clause-before c = front c.args.survey.now _ _ _ c.bytes-bytes.ensures.bytes c.header-header.ensures.fields.points_at
