@@ -2,4 +2,4 @@ pub mod Histories
 pub mod Tales
 pub mod Replying
 pub mod Adding
-pub mod Sound
+pub mod Answered

@@ -142,7 +142,12 @@ fn answer_save<O: Sink>(
     talk.make_room()?;
     let mut out = Bytes::new(alloc);
     out.reserve(HEAD)?;
-    append_head(&mut out, b"FILE", talk.newest, scene.survey.bytes().len() as u64);
+    append_head(
+        &mut out,
+        b"FILE",
+        talk.newest,
+        scene.survey.bytes().len() as u64,
+    );
     talk.show();
     give_all(sink, out.as_slice())?;
     write_survey(&scene.survey, &talk.classes, sink)

@@ -4,8 +4,8 @@
 
 mod answering;
 mod end;
-mod hearing;
 mod heads;
+mod hearing;
 mod history;
 mod pending;
 mod serving;
