@@ -1,0 +1,83 @@
+-- What a session has heard, when one more part of a line, or the end of a line, came.
+use Rattle.std.proofs.Common.{◌≡◌, ℕ, ◌+◌, ◌-◌, ◌<◌, ◌≤◌, Bool, true, false, eqb, leb, List, [], ◌∷◌, ◌++◌, length, take, drop, Option, refl, sym, ap, subst, ◌∙◌, append_assoc, IsTrue, Err, inl, inr, arith, rules, length-append}
+use Rattle.std.proofs.lemmas.Bool.{cases_Bool, lt-leb, ne_eqb}
+use Rattle.std.proofs.lemmas.List.{append-nil}
+use Rattle.view_meaning.specs.Survey.{format_of}
+use Rattle.view_base.specs.Text.{words}
+use Rattle.view_lines.specs.declared.refusal.Refusal.TheVariants.{Line}
+use Rattle.sessions.specs.Lines.{Item, LINE, without_cr, item_of_words, items_of, commands, whole, rest}
+use Rattle.sessions.specs.declared.talk.Talk.{Talk}
+use Rattle.sessions.specs.declared.pending.Pending.{Pending}
+use Rattle.sessions.specs.Talk.{IsAnswering, Answered, AnsweredAll, Stays, GaveUp}
+use Rattle.sessions.specs.Hearing.{HasHeard, IsPending}
+use Rattle.sessions.proofs.Lines.{IsUnbroken, commands-nil, commands-more, commands-lf, rest-more, rest-lf, rest-nil}
+use Rattle.sessions.proofs.Hopes.{answering_more, answering_stays, gave_up}
+
+-- a line above the most bytes is refused
+pub items-long : (f : ℕ) (line : List ℕ) → LINE < length line → items_of f line ≡ Err Line ∷ []
+unfolding items_of
+items-long f line long = rw (lt-leb (length line) LINE long) refl
+
+few_words : (f : ℕ) (line : List ℕ) → length (item_of_words f line) ≤ 1
+few_words f line = elim (cases_Bool (eqb (length (words line)) 0)) [ inl h ↦ rw h (omega arith) | inr h ↦ rw h (omega arith) ]
+
+-- a line is one item or none
+pub items-few : (f : ℕ) (line : List ℕ) → length (items_of f line) ≤ 1
+unfolding items_of
+items-few f line = elim (cases_Bool (leb (length line) LINE)) [
+    | inl h ↦ rw h (few_words f (without_cr line))
+    | inr h ↦ rw h (omega arith)
+  ]
+
+-- a session that answered these items answers those of one more line
+pub answering_line : (b : List ℕ) (items more : List Item) (old new : Talk) (start before after : Option (List ℕ)) → length more ≤ 1 → IsAnswering b items old start before → AnsweredAll b old new more before after true → IsAnswering b (items ++ more) new start after
+answering_line b items [] old new start before after few h a =
+    rw (append-nil items) (subst (λ o. IsAnswering b items new start o) (sym a.2) (answering_stays b items old new start before h a.1))
+answering_line b items (item ∷ []) old new start before after few h a = answering_more b items item old new start before after h a
+answering_line b items (item ∷ other ∷ others) old new start before after few h a = absurd (omega arith)
+
+-- or gives up there
+pub gave_up_line : (b : List ℕ) (items more others : List Item) (old new : Talk) (start before after : Option (List ℕ)) → length more ≤ 1 → IsAnswering b items old start before → AnsweredAll b old new more before after false → GaveUp b (items ++ more ++ others) new start after
+gave_up_line b items [] others old new start before after few h a = absurd (search (rules, a.0))
+gave_up_line b items (item ∷ []) others old new start before after few h a = rw (append_assoc items (item ∷ []) others) (gave_up b items item others old new start before after h a)
+gave_up_line b items (item ∷ other ∷ more) others old new start before after few h a = absurd (omega arith)
+
+-- the commands of a text whose last line ended, and then of what follows
+pub commands-line : (f : ℕ) (t part s : List ℕ) → IsUnbroken part → commands f (t ++ part ++ 10 ∷ s) ≡ commands f t ++ items_of f (rest t ++ part) ++ commands f s
+commands-line f t part s unbroken =
+    commands-lf f (t ++ part) s ∙ rw (commands-more f t part unbroken, rest-more t part unbroken) refl
+
+-- a part of a line came
+pub heard_part : (b t part : List ℕ) (talk : Talk) (pending now : Pending) (start got : Option (List ℕ)) → IsUnbroken part → HasHeard b t talk pending start got → IsPending now (rest t ++ part) → HasHeard b (t ++ part) talk now start got
+heard_part b t part talk pending now start got unbroken h is = record {
+  answering = rw (commands-more (format_of b) t part unbroken) h.answering;
+  kept = rw (rest-more t part unbroken) is;
+}
+
+-- the end of a line came, and it was answered
+pub heard_line : (b t part : List ℕ) (old new : Talk) (pending now : Pending) (start before after : Option (List ℕ)) → IsUnbroken part → HasHeard b t old pending start before → AnsweredAll b old new (items_of (format_of b) (rest t ++ part)) before after true → IsPending now [] → HasHeard b (t ++ part ++ 10 ∷ []) new now start after
+heard_line b t part old new pending now start before after unbroken h a is = record {
+  answering =
+      let items = commands (format_of b) t in
+      let more = items_of (format_of b) (rest t ++ part) in
+      rw (commands-line (format_of b) t part [] unbroken, commands-nil (format_of b), append-nil (items ++ more)) (answering_line b items more old new start before after (items-few (format_of b) (rest t ++ part)) h.answering a);
+  kept = rw (rest-lf (t ++ part) [], rest-nil) is;
+}
+
+-- or it was not
+pub heard_gave_up : (b t part s : List ℕ) (old new : Talk) (pending : Pending) (start before after : Option (List ℕ)) → IsUnbroken part → HasHeard b t old pending start before → AnsweredAll b old new (items_of (format_of b) (rest t ++ part)) before after false → GaveUp b (commands (format_of b) (t ++ part ++ 10 ∷ s)) new start after
+heard_gave_up b t part s old new pending start before after unbroken h a =
+    rw (commands-line (format_of b) t part s unbroken) (gave_up_line b (commands (format_of b) t) (items_of (format_of b) (rest t ++ part)) (commands (format_of b) s) old new start before after (items-few (format_of b) (rest t ++ part)) h.answering a)
+
+-- a whole text, by whether something follows the last LF
+pub whole-ended : (f : ℕ) (t : List ℕ) → rest t ≡ [] → whole f t ≡ commands f t
+unfolding whole
+whole-ended f t none = rw none (append-nil (commands f t))
+
+pub whole-open : (f : ℕ) (t : List ℕ) → 0 < length (rest t) → whole f t ≡ commands f t ++ items_of f (rest t)
+unfolding whole
+whole-open f t some = rw (ne_eqb (length (rest t)) 0 (λ e. omega arith)) refl
+
+-- the answer to a refused line is that to all its items
+pub answered_long : (b : List ℕ) (old new : Talk) (line : List ℕ) (before after : Option (List ℕ)) (done : Bool) → LINE < length line → Answered b old new (Err Line) before after done → AnsweredAll b old new (items_of (format_of b) line) before after done
+answered_long b old new line before after done long a = rw (items-long (format_of b) line long) a
