@@ -1,16 +1,17 @@
 -- What a session has heard, when one more part of a line, or the end of a line, came.
-use Rattle.std.proofs.Common.{◌≡◌, ℕ, ◌+◌, ◌-◌, ◌<◌, ◌≤◌, Bool, true, false, eqb, leb, List, [], ◌∷◌, ◌++◌, length, take, drop, Option, refl, sym, ap, subst, ◌∙◌, append_assoc, IsTrue, Err, inl, inr, arith, rules, length-append}
+use Rattle.std.proofs.Common.{◌≡◌, ℕ, ◌+◌, ◌-◌, ◌<◌, ◌≤◌, Bool, true, false, eqb, leb, List, [], ◌∷◌, ◌++◌, length, take, drop, Option, refl, sym, ap, subst, ◌∙◌, append_assoc, IsTrue, Err, inl, inr, arith, rules, length-append, Some}
+use Rattle.std.specs.List.{position}
 use Rattle.std.proofs.lemmas.Bool.{cases_Bool, lt-leb, ne_eqb}
 use Rattle.std.proofs.lemmas.List.{append-nil}
 use Rattle.view_meaning.specs.Survey.{format_of}
 use Rattle.view_base.specs.Text.{words}
 use Rattle.view_lines.specs.declared.refusal.Refusal.TheVariants.{Line}
-use Rattle.sessions.specs.Lines.{Item, LINE, without_cr, item_of_words, items_of, commands, whole, rest}
+use Rattle.sessions.specs.Lines.{Item, LINE, is_lf, without_cr, item_of_words, items_of, commands, whole, rest}
 use Rattle.sessions.specs.declared.talk.Talk.{Talk}
 use Rattle.sessions.specs.declared.pending.Pending.{Pending}
 use Rattle.sessions.specs.Talk.{IsAnswering, Answered, AnsweredAll, Stays, GaveUp}
 use Rattle.sessions.specs.Hearing.{HasHeard, IsPending}
-use Rattle.sessions.proofs.Lines.{IsUnbroken, commands-nil, commands-more, commands-lf, rest-more, rest-lf, rest-nil}
+use Rattle.sessions.proofs.Lines.{IsUnbroken, split_at_lf, commands-nil, commands-more, commands-lf, rest-more, rest-lf, rest-nil}
 use Rattle.sessions.proofs.Hopes.{answering_more, answering_stays, gave_up}
 
 -- a line above the most bytes is refused
@@ -81,3 +82,29 @@ whole-open f t some = rw (ne_eqb (length (rest t)) 0 (λ e. omega arith)) refl
 -- the answer to a refused line is that to all its items
 pub answered_long : (b : List ℕ) (old new : Talk) (line : List ℕ) (before after : Option (List ℕ)) (done : Bool) → LINE < length line → Answered b old new (Err Line) before after done → AnsweredAll b old new (items_of (format_of b) line) before after done
 answered_long b old new line before after done long a = rw (items-long (format_of b) line long) a
+
+-- what was answered of a line was answered of the same line by another name
+pub answered_same : (b : List ℕ) (old new : Talk) (here line : List ℕ) (before after : Option (List ℕ)) (done : Bool) → here ≡ line → done ≡ true → AnsweredAll b old new (items_of (format_of b) here) before after done → AnsweredAll b old new (items_of (format_of b) line) before after true
+answered_same b old new here line before after done same all a = rw (sym same, sym all) a
+
+-- a piece whose next line ended
+pub cut_piece : (piece front rest : List ℕ) (k : ℕ) → position is_lf rest ≡ Some k → piece ≡ front ++ rest → piece ≡ front ++ take k rest ++ 10 ∷ drop (k + 1) rest
+cut_piece piece front rest k found h =
+    h ∙ ap (λ u. front ++ u) (split_at_lf rest k found) ∙ sym (append_assoc front (take k rest) (10 ∷ drop (k + 1) rest))
+
+-- what is regrouped is the same text
+pub regroup : (t front part s piece : List ℕ) → piece ≡ front ++ part ++ s → t ++ front ++ part ++ s ≡ t ++ piece
+regroup t front part s piece h = rw h (simp append_assoc)
+
+pub regroup_lf : (t front part : List ℕ) → t ++ front ++ part ++ 10 ∷ [] ≡ t ++ (front ++ part ++ 10 ∷ [])
+regroup_lf t front part = simp append_assoc
+
+pub tail_on : (front part tail now : List ℕ) → tail ≡ now → front ++ part ++ 10 ∷ tail ≡ front ++ part ++ 10 ∷ [] ++ now
+tail_on front part tail now h = rw h (sym (append_assoc (front ++ part) (10 ∷ []) now))
+
+-- what was heard of a text was heard of the same text by another name
+pub heard_as : (b t u : List ℕ) (talk : Talk) (pending : Pending) (start now : Option (List ℕ)) → t ≡ u → HasHeard b t talk pending start now → HasHeard b u talk pending start now
+heard_as b t u talk pending start now same h = subst (λ v. HasHeard b v talk pending start now) same h
+
+pub gave_up_as : (b t u : List ℕ) (talk : Talk) (start now : Option (List ℕ)) → t ≡ u → GaveUp b (commands (format_of b) t) talk start now → GaveUp b (commands (format_of b) u) talk start now
+gave_up_as b t u talk start now same h = subst (λ v. GaveUp b (commands (format_of b) v) talk start now) same h

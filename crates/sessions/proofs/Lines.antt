@@ -1,11 +1,14 @@
 -- How a text is cut into lines, one more part of it at a time.
-use Rattle.std.proofs.Common.{◌≡◌, ℕ, ◌+◌, ◌-◌, ◌<◌, ◌≤◌, Bool, true, false, eqb, List, [], ◌∷◌, ◌++◌, length, get_or, take, refl, sym, ap, ◌∙◌, append_assoc, inl, inr, arith, rules, length-append}
-use Rattle.std.specs.List.{All, slice_split, onto_first, flat_map}
-use Rattle.std.proofs.lemmas.Bool.{cases_Bool}
-use Rattle.std.proofs.lemmas.Grind.{common_steps, flat_map-append}
-use Rattle.std.proofs.lemmas.List.{take-append-drop}
+use Rattle.std.proofs.Common.{◌≡◌, ℕ, ◌+◌, ◌-◌, ◌<◌, ◌≤◌, Bool, true, false, eqb, List, [], ◌∷◌, ◌++◌, length, get_or, take, refl, sym, ap, ◌∙◌, append_assoc, inl, inr, arith, length-append, suc, ltb, drop, Some, None, add-one}
+use Rattle.std.specs.List.{All, slice_split, onto_first, flat_map, position, position_or_len}
+use Rattle.std.proofs.lemmas.Bool.{cases_Bool, eqb-true, ltb-false}
+use Rattle.std.proofs.lemmas.Grind.{flat_map-append}
+use Rattle.std.proofs.lemmas.List.{take-append-drop, length-take, get_or-take}
+use Rattle.std.proofs.lemmas.List.Elements.{All-from_get_or}
+use Rattle.std.proofs.lemmas.List.Quantifiers.{position-Some}
+use Rattle.std.proofs.lemmas.List.Sums.{fails_before_first}
 use Rattle.std.proofs.lemmas.List.Splits.{slice_split_none}
-use Rattle.std.proofs.Math.Seq.{take-append_seam, get_or-append_seam}
+use Rattle.std.proofs.Math.Seq.{drop-cons, take-append_seam, get_or-append_seam}
 use Rattle.sessions.specs.Lines.{Item, LINE, is_lf, lines, rest, items_of, commands, whole}
 
 -- a text has no LF
@@ -116,3 +119,24 @@ commands-nil f = refl
 pub rest-nil : rest [] ≡ []
 unfolding rest
 rest-nil = refl
+
+-- a text without LF
+pub unbroken : (r : List ℕ) → position is_lf r ≡ None → IsUnbroken r
+unbroken r missed = elim (cases_Bool (ltb (position_or_len is_lf r) (length r))) [
+    | inl found ↦ absurd (let some : position is_lf r ≡ Some (position_or_len is_lf r) = rw found refl in cc)
+    | inr past ↦ All-from_get_or (λ c. is_lf c ≡ false) r 0 (λ i inside. fails_before_first is_lf r i 0 (omega (arith, ltb-false _ _ past)))
+  ]
+
+-- a text with an LF is what stands before the first, and what follows it
+pub unbroken_front : (r : List ℕ) (k : ℕ) → position is_lf r ≡ Some k → IsUnbroken (take k r)
+unbroken_front r k found =
+    let at = position-Some is_lf r k 0 found in
+    All-from_get_or (λ c. is_lf c ≡ false) (take k r) 0 (λ i inside.
+      let below : i < k = omega (arith, length-take k r) in
+      rw (get_or-take k r i 0 below) (at.2 i below))
+
+pub split_at_lf : (r : List ℕ) (k : ℕ) → position is_lf r ≡ Some k → r ≡ take k r ++ 10 ∷ drop (k + 1) r
+split_at_lf r k found =
+    let at = position-Some is_lf r k 0 found in
+    let lf : get_or r k 0 ≡ 10 = eqb-true _ _ at.1 in
+    sym (take-append-drop k r) ∙ ap (λ u. take k r ++ u) (drop-cons r k 0 at.0 ∙ rw (lf, add-one) refl)
