@@ -3,6 +3,7 @@ use Rattle.std.proofs.Common.{◌≡◌, ℕ, ◌+◌, ◌-◌, ◌<◌, ◌≤�
 use Rattle.std.specs.List.{position}
 use Rattle.std.proofs.lemmas.Bool.{cases_Bool, lt-leb, ne_eqb}
 use Rattle.std.proofs.lemmas.List.{append-nil}
+use Rattle.std.proofs.lemmas.List.{nil_from_length}
 use Rattle.view_meaning.specs.Survey.{format_of}
 use Rattle.view_base.specs.Text.{words}
 use Rattle.view_lines.specs.declared.refusal.Refusal.TheVariants.{Line}
@@ -108,3 +109,30 @@ heard_as b t u talk pending start now same h = subst (λ v. HasHeard b v talk pe
 
 pub gave_up_as : (b t u : List ℕ) (talk : Talk) (start now : Option (List ℕ)) → t ≡ u → GaveUp b (commands (format_of b) t) talk start now → GaveUp b (commands (format_of b) u) talk start now
 gave_up_as b t u talk start now same h = subst (λ v. GaveUp b (commands (format_of b) v) talk start now) same h
+
+-- whether a line that is kept has bytes
+pub some_long : (pending : Pending) (line : List ℕ) → IsPending pending line → pending.long ≡ true → 0 < length line
+some_long pending line is long = let many : LINE < length line = is.many (search (rules, long)) in omega arith
+
+pub some_kept : (pending : Pending) (line : List ℕ) → IsPending pending line → pending.long ≡ false → 0 < length pending.bytes.items → 0 < length line
+some_kept pending line is few some = subst (λ l. 0 < length l) (is.few (search (rules, few))) some
+
+pub none_kept : (pending : Pending) (line : List ℕ) → IsPending pending line → pending.long ≡ false → length pending.bytes.items ≤ 0 → line ≡ []
+none_kept pending line is few none = let short : length line ≤ 0 = subst (λ l. length l ≤ 0) (is.few (search (rules, few))) none in nil_from_length line (omega arith)
+
+-- the last line of an input was answered
+pub heard_end : (b t : List ℕ) (old new : Talk) (pending : Pending) (start before after : Option (List ℕ)) → 0 < length (rest t) → HasHeard b t old pending start before → AnsweredAll b old new (items_of (format_of b) (rest t)) before after true → IsAnswering b (whole (format_of b) t) new start after
+heard_end b t old new pending start before after some h a =
+    rw (whole-open (format_of b) t some) (answering_line b (commands (format_of b) t) (items_of (format_of b) (rest t)) old new start before after (items-few (format_of b) (rest t)) h.answering a)
+
+-- or it was not
+pub end_gave_up : (b t : List ℕ) (old new : Talk) (pending : Pending) (start before after : Option (List ℕ)) → 0 < length (rest t) → HasHeard b t old pending start before → AnsweredAll b old new (items_of (format_of b) (rest t)) before after false → GaveUp b (whole (format_of b) t) new start after
+end_gave_up b t old new pending start before after some h a =
+    let items = commands (format_of b) t in
+    let more = items_of (format_of b) (rest t) in
+    let given : GaveUp b (items ++ more ++ []) new start after = gave_up_line b items more [] old new start before after (items-few (format_of b) (rest t)) h.answering a in
+    rw (whole-open (format_of b) t some) (subst (λ all. GaveUp b all new start after) (append-nil (items ++ more)) given)
+
+-- or there was none
+pub heard_all : (b t : List ℕ) (talk : Talk) (pending : Pending) (start now : Option (List ℕ)) → rest t ≡ [] → HasHeard b t talk pending start now → IsAnswering b (whole (format_of b) t) talk start now
+heard_all b t talk pending start now none h = rw (whole-ended (format_of b) t none) h.answering

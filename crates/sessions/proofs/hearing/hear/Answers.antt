@@ -5,7 +5,7 @@ use Rattle.std.proofs.lemmas.List.{append_assoc, take_all, append-nil, length-dr
 use Rattle.view_meaning.specs.Survey.{format_of}
 use Rattle.sessions.specs.Lines.{is_lf, rest, items_of, commands}
 use Rattle.sessions.specs.Talk.{AnsweredAll, GaveUp}
-use Rattle.sessions.specs.Hearing.{HasHeard, IsPending}
+use Rattle.sessions.specs.Hearing.{HasHeard}
 use Rattle.sessions.proofs.Lines.{IsUnbroken, unbroken, unbroken_front}
 use Rattle.sessions.proofs.Heard.{heard_part, heard_line, heard_gave_up, cut_piece, heard_as, gave_up_as, regroup, regroup_lf, tail_on}
 use Rattle.sessions.proofs.hearing.hear.Goals as goal
