@@ -1,3 +1,4 @@
 pub mod Lines
 pub mod Hopes
 pub mod Heard
+pub mod Taking
