@@ -4,6 +4,7 @@ use Rattle.std.specs.List.{position}
 use Rattle.std.proofs.lemmas.Bool.{cases_Bool, lt-leb, ne_eqb}
 use Rattle.std.proofs.lemmas.List.{append-nil}
 use Rattle.std.proofs.lemmas.List.{nil_from_length}
+use Rattle.std.proofs.Math.Seq.{take-append_seam}
 use Rattle.view_meaning.specs.Survey.{format_of}
 use Rattle.view_base.specs.Text.{words}
 use Rattle.view_lines.specs.declared.refusal.Refusal.TheVariants.{Line}
@@ -13,7 +14,7 @@ use Rattle.sessions.specs.declared.pending.Pending.{Pending}
 use Rattle.sessions.specs.Talk.{IsAnswering, Answered, AnsweredAll, Stays, GaveUp}
 use Rattle.sessions.specs.Hearing.{HasHeard, IsPending}
 use Rattle.sessions.proofs.Lines.{IsUnbroken, split_at_lf, commands-nil, commands-more, commands-lf, rest-more, rest-lf, rest-nil}
-use Rattle.sessions.proofs.Hopes.{answering_more, answering_stays, gave_up}
+use Rattle.sessions.proofs.Replying.{answering_line, gave_up-line}
 
 -- a line above the most bytes is refused
 pub items-long : (f : ℕ) (line : List ℕ) → LINE < length line → items_of f line ≡ Err Line ∷ []
@@ -31,18 +32,10 @@ items-few f line = elim (cases_Bool (leb (length line) LINE)) [
     | inr h ↦ rw h (omega arith)
   ]
 
--- a session that answered these items answers those of one more line
-pub answering_line : (b : List ℕ) (items more : List Item) (old new : Talk) (start before after : Option (List ℕ)) → length more ≤ 1 → IsAnswering b items old start before → AnsweredAll b old new more before after true → IsAnswering b (items ++ more) new start after
-answering_line b items [] old new start before after few h a =
-    rw (append-nil items) (subst (λ o. IsAnswering b items new start o) (sym a.2) (answering_stays b items old new start before h a.1))
-answering_line b items (item ∷ []) old new start before after few h a = answering_more b items item old new start before after h a
-answering_line b items (item ∷ other ∷ others) old new start before after few h a = absurd (omega arith)
-
--- or gives up there
-pub gave_up_line : (b : List ℕ) (items more others : List Item) (old new : Talk) (start before after : Option (List ℕ)) → length more ≤ 1 → IsAnswering b items old start before → AnsweredAll b old new more before after false → GaveUp b (items ++ more ++ others) new start after
-gave_up_line b items [] others old new start before after few h a = absurd (search (rules, a.0))
-gave_up_line b items (item ∷ []) others old new start before after few h a = rw (append_assoc items (item ∷ []) others) (gave_up b items item others old new start before after h a)
-gave_up_line b items (item ∷ other ∷ more) others old new start before after few h a = absurd (omega arith)
+-- a session gives up at a line
+gave_up_line : (b : List ℕ) (items more others : List Item) (old new : Talk) (start before after : Option (List ℕ)) → length more ≤ 1 → IsAnswering b items old start before → AnsweredAll b old new more before after false → GaveUp b (items ++ more ++ others) new start after
+gave_up_line b items more others old new start before after few h a =
+    gave_up-line b (items ++ more ++ others) items more old new start before after few h a (length (items ++ more), take-append_seam (items ++ more) others)
 
 -- the commands of a text whose last line ended, and then of what follows
 pub commands-line : (f : ℕ) (t part s : List ℕ) → IsUnbroken part → commands f (t ++ part ++ 10 ∷ s) ≡ commands f t ++ items_of f (rest t ++ part) ++ commands f s

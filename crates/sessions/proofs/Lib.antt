@@ -1,4 +1,7 @@
-pub mod Lines
-pub mod Hopes
-pub mod Heard
-pub mod Taking
+mod Histories
+mod Tales
+mod Replying
+mod Adding
+mod Lines
+mod Heard
+mod Taking

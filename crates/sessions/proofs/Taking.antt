@@ -5,15 +5,19 @@ use Rattle.std.proofs.Math.Seq.{take-append_seam}
 use Rattle.view_ends.specs.Ends.{Leaves, Ended}
 use Rattle.view_ends.specs.declared.fault.EndFault.{EndFault}
 use Rattle.view_ends.specs.declared.fault.EndFault.TheVariants as fault
+use Rattle.view_meaning.specs.Classes as meaning
 use Rattle.view_meaning.specs.Survey.{format_of}
 use Rattle.sessions.specs.declared.end.Reason.TheVariants.{Finished, ReadFault, SessionLimit, WriteFault, Memory}
 use Rattle.sessions.specs.declared.talk.Talk.{Talk}
 use Rattle.sessions.specs.declared.pending.Pending.{Pending}
 use Rattle.sessions.specs.Lines.{Item, commands, whole}
-use Rattle.sessions.specs.Session.{LIMIT, within, Processed}
+use Rattle.sessions.specs.Histories.{journal}
+use Rattle.sessions.specs.Replies.{replies}
+use Rattle.sessions.specs.Session.{LIMIT, within, Processed, GotMost, Served}
 use Rattle.sessions.specs.Talk.{IsAnswering, GaveUp}
 use Rattle.sessions.specs.Hearing.{HasHeard}
 use Rattle.sessions.specs.Listening.{Listened, reason_of}
+use Rattle.sessions.proofs.Tales.{tale_nothing, tale_told, tale_fresh}
 
 -- what was taken begins the input, where it is told
 told_input : (old now : Option (List ℕ)) (t : List ℕ) → Leaves old t now → (rest : List ℕ) × IfSome old (λ all. all ≡ t ++ rest)
@@ -191,3 +195,33 @@ leaves_front mid after buf behind n fits h = subst (λ u. Leaves mid u after) (s
 
 pub fits_front : (buf behind : List ℕ) (n : ℕ) → n ≤ length buf → n ≤ length (buf ++ behind)
 fits_front buf behind n fits = omega (arith, length-append buf behind)
+
+-- some input, which is what is told
+some_input : (left : Option (List ℕ)) → (input : List ℕ) × IfSome left (λ all. all ≡ input)
+some_input None = ([], tt)
+some_input (Some all) = (all, refl)
+
+-- an output that got nothing has the replies to no items
+got_nothing : (b : List ℕ) (edits : List meaning.Edit) (got : Option (List ℕ)) → GotMost b edits [] [] got got
+unfolding replies
+got_nothing b edits None = tt
+got_nothing b edits (Some all) = (0, omega arith, ap (λ (u : List ℕ). Some u) (sym (append-nil all)))
+
+-- a session for which there was no memory
+pub served_nothing : (b : List ℕ) (left got : Option (List ℕ)) → Served b [] [] 1 left got got [] Memory 0
+served_nothing b left got =
+    let input = some_input left in
+    record {
+      input = input.0;
+      items = [];
+      input_is = input.1;
+      processed = record {
+        came = omega arith;
+        limit = ((λ e. absurd cc), (λ e. absurd (omega arith)));
+        few = omega arith;
+        items_are = inl (0, refl);
+      };
+      told = tale_told [] [] [] tale_nothing;
+      fresh = tale_fresh [] [] [] tale_nothing;
+      got = got_nothing b (journal []) got;
+    }
