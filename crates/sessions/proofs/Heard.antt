@@ -11,10 +11,10 @@ use Rattle.view_lines.specs.declared.refusal.Refusal.TheVariants.{Line}
 use Rattle.sessions.specs.Lines.{Item, LINE, is_lf, without_cr, item_of_words, items_of, commands, whole, rest}
 use Rattle.sessions.specs.declared.talk.Talk.{Talk}
 use Rattle.sessions.specs.declared.pending.Pending.{Pending}
-use Rattle.sessions.specs.Talk.{IsAnswering, Answered, AnsweredAll, Stays, GaveUp}
+use Rattle.sessions.specs.Talk.{IsSound, IsAnswering, Answered, AnsweredAll, GaveUp}
 use Rattle.sessions.specs.Hearing.{HasHeard, IsPending}
 use Rattle.sessions.proofs.Lines.{IsUnbroken, split_at_lf, commands-nil, commands-more, commands-lf, rest-more, rest-lf, rest-nil}
-use Rattle.sessions.proofs.Replying.{answering_line, gave_up-line}
+use Rattle.sessions.proofs.Replying.{answering_nothing, answering_line, gave_up-line}
 
 -- a line above the most bytes is refused
 pub items-long : (f : ℕ) (line : List ℕ) → LINE < length line → items_of f line ≡ Err Line ∷ []
@@ -129,3 +129,10 @@ end_gave_up b t old new pending start before after some h a =
 -- or there was none
 pub heard_all : (b t : List ℕ) (talk : Talk) (pending : Pending) (start now : Option (List ℕ)) → rest t ≡ [] → HasHeard b t talk pending start now → IsAnswering b (whole (format_of b) t) talk start now
 heard_all b t talk pending start now none h = rw (whole-ended (format_of b) t none) h.answering
+
+-- a session that has heard nothing
+pub heard_nothing : (b : List ℕ) (talk : Talk) (pending : Pending) (got : Option (List ℕ)) → IsSound b talk → talk.history.items ≡ [] → talk.marks.items ≡ [] → IsPending pending [] → HasHeard b [] talk pending got got
+heard_nothing b talk pending got sound history marks kept = record {
+  answering = rw (commands-nil (format_of b)) (answering_nothing b talk got sound history marks);
+  kept = rw rest-nil kept;
+}
