@@ -28,9 +28,9 @@ few_words f line = elim (cases_Bool (eqb (length (words line)) 0)) [ inl h ↦ r
 pub items-few : (f : ℕ) (line : List ℕ) → length (items_of f line) ≤ 1
 unfolding items_of
 items-few f line = elim (cases_Bool (leb (length line) LINE)) [
-    | inl h ↦ rw h (few_words f (without_cr line))
-    | inr h ↦ rw h (omega arith)
-  ]
+  | inl h ↦ rw h (few_words f (without_cr line))
+  | inr h ↦ rw h (omega arith)
+]
 
 -- a session gives up at a line
 gave_up_line : (b : List ℕ) (items more others : List Item) (old new : Talk) (start before after : Option (List ℕ)) → length more ≤ 1 → IsAnswering b items old start before → AnsweredAll b old new more before after false → GaveUp b (items ++ more ++ others) new start after

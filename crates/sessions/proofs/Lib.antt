@@ -5,3 +5,4 @@ mod Adding
 mod Lines
 mod Heard
 mod Taking
+mod Examples

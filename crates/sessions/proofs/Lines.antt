@@ -123,17 +123,17 @@ rest-nil = refl
 -- a text without LF
 pub unbroken : (r : List ℕ) → position is_lf r ≡ None → IsUnbroken r
 unbroken r missed = elim (cases_Bool (ltb (position_or_len is_lf r) (length r))) [
-    | inl found ↦ absurd (let some : position is_lf r ≡ Some (position_or_len is_lf r) = rw found refl in cc)
-    | inr past ↦ All-from_get_or (λ c. is_lf c ≡ false) r 0 (λ i inside. fails_before_first is_lf r i 0 (omega (arith, ltb-false _ _ past)))
-  ]
+  | inl found ↦ absurd (let some : position is_lf r ≡ Some (position_or_len is_lf r) = rw found refl in cc)
+  | inr past ↦ All-from_get_or (λ c. is_lf c ≡ false) r 0 (λ i inside. fails_before_first is_lf r i 0 (omega (arith, ltb-false _ _ past)))
+]
 
 -- a text with an LF is what stands before the first, and what follows it
 pub unbroken_front : (r : List ℕ) (k : ℕ) → position is_lf r ≡ Some k → IsUnbroken (take k r)
 unbroken_front r k found =
     let at = position-Some is_lf r k 0 found in
     All-from_get_or (λ c. is_lf c ≡ false) (take k r) 0 (λ i inside.
-      let below : i < k = omega (arith, length-take k r) in
-      rw (get_or-take k r i 0 below) (at.2 i below))
+    let below : i < k = omega (arith, length-take k r) in
+    rw (get_or-take k r i 0 below) (at.2 i below))
 
 pub split_at_lf : (r : List ℕ) (k : ℕ) → position is_lf r ≡ Some k → r ≡ take k r ++ 10 ∷ drop (k + 1) r
 split_at_lf r k found =

@@ -1,5 +1,5 @@
 -- What a session has listened to when it ends, by why it ends.
-use Rattle.std.proofs.Common.{◌≡◌, ℕ, ◌+◌, ◌-◌, ◌<◌, ◌≤◌, List, [], ◌∷◌, ◌++◌, length, take, Option, Some, None, IfSome, Result, Ok, Err, OnOk, OnErr, is_err, true, min, refl, sym, ap, subst, ◌∙◌, inl, inr, arith, rules, length-append}
+use Rattle.std.proofs.Common.{◌≡◌, ℕ, ◌+◌, ◌-◌, ◌<◌, ◌≤◌, List, [], ◌∷◌, ◌++◌, length, take, Option, Some, None, IfSome, Result, Ok, Err, OnOk, OnErr, is_err, true, min, refl, sym, ap, subst, ◌∙◌, ◌⊎◌, inl, inr, arith, length-append}
 use Rattle.std.proofs.lemmas.List.{append-nil, append_assoc, take_all, length-take, take-append-le}
 use Rattle.std.proofs.Math.Seq.{take-append_seam}
 use Rattle.view_ends.specs.Ends.{Leaves, Ended}
@@ -13,10 +13,11 @@ use Rattle.sessions.specs.declared.pending.Pending.{Pending}
 use Rattle.sessions.specs.Lines.{Item, commands, whole}
 use Rattle.sessions.specs.Histories.{journal}
 use Rattle.sessions.specs.Replies.{replies}
-use Rattle.sessions.specs.Session.{LIMIT, within, Processed, GotMost, Served}
+use Rattle.sessions.specs.Session.{LIMIT, IsFrontOf, within, MayProcess, GotMost, Got, Served}
 use Rattle.sessions.specs.Talk.{IsAnswering, GaveUp}
 use Rattle.sessions.specs.Hearing.{HasHeard}
 use Rattle.sessions.specs.Listening.{Listened, reason_of}
+use Rattle.sessions.proofs.Examples
 use Rattle.sessions.proofs.Tales.{tale_nothing, tale_told, tale_fresh}
 
 -- what was taken begins the input, where it is told
@@ -97,66 +98,53 @@ listened_end b t talk left mid start now taken many few taken_off ended h = reco
   got = h.got;
 }
 
+-- what is said of a session that gave up, whatever failed
+may_process : (format : ℕ) (input : List ℕ) (taken : ℕ) (items : List Item) (why : EndFault) → IsFrontOf items (commands format (within input taken)) ⊎ ((within input taken ≡ input) × IsFrontOf items (whole format input)) → MayProcess format input taken items (reason_of (Err why))
+may_process format input taken items fault.Failed h = h
+may_process format input taken items fault.Memory h = h
+
+got_most : (b : List ℕ) (edits : List meaning.Edit) (items : List Item) (marks : List ℕ) (old new : Option (List ℕ)) (why : EndFault) → GotMost b edits items marks old new → Got b edits items marks old new (reason_of (Err why))
+got_most b edits items marks old new fault.Failed h = h
+got_most b edits items marks old new fault.Memory h = h
+
+no_limit : (why : EndFault) → reason_of (Err why) ≡ SessionLimit → ⊥
+no_limit fault.Failed e = absurd cc
+no_limit fault.Memory e = absurd cc
+
 -- a reply of a line that ended was not given
 listened_gave_up : (b t : List ℕ) (talk : Talk) (left mid start now : Option (List ℕ)) (taken : ℕ) (why : EndFault) → length t ≡ taken → taken ≤ LIMIT → Leaves left t mid → GaveUp b (commands (format_of b) t) talk start now → Listened b talk left start now (reason_of (Err why)) taken
-listened_gave_up b t talk left mid start now taken fault.Failed many few taken_off h =
+listened_gave_up b t talk left mid start now taken why many few taken_off h =
     let told = told_input left mid t taken_off in
+    let items = take h.count (commands (format_of b) t) in
+    let front : items ≡ take h.count (commands (format_of b) (within (t ++ told.0) taken)) = ap (λ u. take h.count (commands (format_of b) u)) (sym (within_is t told.0 taken (omega arith))) in
     record {
       input = t ++ told.0;
-      items = take h.count (commands (format_of b) t);
+      items = items;
       input_is = told.1;
       processed = record {
         came = omega (arith, length-append t told.0);
-        limit = ((λ e. absurd cc), (λ e. absurd (omega arith)));
+        limit = ((λ e. absurd (no_limit why e)), (λ e. absurd (omega arith)));
         few = omega arith;
-        items_are = inl (h.count, ap (λ u. take h.count (commands (format_of b) u)) (sym (within_is t told.0 taken (omega arith))));
+        items_are = may_process _ _ _ _ why (inl (h.count, front));
       };
       tale = h.tale;
-      got = h.got;
-    }
-listened_gave_up b t talk left mid start now taken fault.Memory many few taken_off h =
-    let told = told_input left mid t taken_off in
-    record {
-      input = t ++ told.0;
-      items = take h.count (commands (format_of b) t);
-      input_is = told.1;
-      processed = record {
-        came = omega (arith, length-append t told.0);
-        limit = ((λ e. absurd cc), (λ e. absurd (omega arith)));
-        few = omega arith;
-        items_are = inl (h.count, ap (λ u. take h.count (commands (format_of b) u)) (sym (within_is t told.0 taken (omega arith))));
-      };
-      tale = h.tale;
-      got = h.got;
+      got = got_most _ _ _ _ _ _ why h.got;
     }
 
 -- the reply of the last line was not given
 last_gave_up : (b t : List ℕ) (talk : Talk) (left mid start now : Option (List ℕ)) (taken : ℕ) (why : EndFault) → length t ≡ taken → taken ≤ LIMIT → Leaves left t mid → Ended mid → GaveUp b (whole (format_of b) t) talk start now → Listened b talk left start now (reason_of (Err why)) taken
-last_gave_up b t talk left mid start now taken fault.Failed many few taken_off ended h = record {
+last_gave_up b t talk left mid start now taken why many few taken_off ended h = record {
   input = t;
   items = take h.count (whole (format_of b) t);
   input_is = told_end left mid t taken_off ended;
   processed = record {
     came = omega arith;
-    limit = ((λ e. absurd cc), (λ e. absurd (omega arith)));
+    limit = ((λ e. absurd (no_limit why e)), (λ e. absurd (omega arith)));
     few = omega arith;
-    items_are = inr (within_all t taken many few, (h.count, refl));
+    items_are = may_process _ _ _ _ why (inr (within_all t taken many few, (h.count, refl)));
   };
   tale = h.tale;
-  got = h.got;
-}
-last_gave_up b t talk left mid start now taken fault.Memory many few taken_off ended h = record {
-  input = t;
-  items = take h.count (whole (format_of b) t);
-  input_is = told_end left mid t taken_off ended;
-  processed = record {
-    came = omega arith;
-    limit = ((λ e. absurd cc), (λ e. absurd (omega arith)));
-    few = omega arith;
-    items_are = inr (within_all t taken many few, (h.count, refl));
-  };
-  tale = h.tale;
-  got = h.got;
+  got = got_most _ _ _ _ _ _ why h.got;
 }
 
 -- its input was read to the end

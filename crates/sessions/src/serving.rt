@@ -59,7 +59,11 @@ pub fn serve_alone<I: Source, O: Sink, B: Beside>(
     };
     let (reason, taken) = listen(alloc, scene, &mut talk, &mut pending, source, sink, beside);
     *history = talk.history;
-    SessionEnd { marks: talk.marks, reason, taken }
+    SessionEnd {
+        marks: talk.marks,
+        reason,
+        taken,
+    }
 }
 
 /// The end of a session for which there was no memory at all.
@@ -68,7 +72,11 @@ fn memory_end(alloc: Global) -> SessionEnd
     ensures reason { result.reason ≡ Memory }
     ensures taken { result.taken ≡ 0 }
 {
-    SessionEnd { marks: Marks::new(alloc), reason: Reason::Memory, taken: 0 }
+    SessionEnd {
+        marks: Marks::new(alloc),
+        reason: Reason::Memory,
+        taken: 0,
+    }
 }
 
 /// Hears an input to its end, or as far as it goes, and answers why it went no further and how
