@@ -5,4 +5,5 @@ mod Adding
 mod Lines
 mod Heard
 mod Taking
+mod Processing
 mod Examples

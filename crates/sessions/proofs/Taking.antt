@@ -17,7 +17,6 @@ use Rattle.sessions.specs.Session.{LIMIT, IsFrontOf, within, MayProcess, GotMost
 use Rattle.sessions.specs.Talk.{IsAnswering, GaveUp}
 use Rattle.sessions.specs.Hearing.{HasHeard}
 use Rattle.sessions.specs.Listening.{Listened, reason_of}
-use Rattle.sessions.proofs.Examples
 use Rattle.sessions.proofs.Tales.{tale_nothing, tale_told, tale_fresh}
 
 -- what was taken begins the input, where it is told
