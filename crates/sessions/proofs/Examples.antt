@@ -1,5 +1,5 @@
 -- Lines worked by hand.
-use Rattle.std.proofs.Common.{◌≡◌, ℕ, List, [], ◌∷◌, Err, refl}
+use Rattle.std.proofs.Common.{◌≡◌, ℕ, [], ◌∷◌, Err, refl}
 use Rattle.view_base.specs.Text.{words}
 use Rattle.view_lines.specs.Command.{command_of}
 use Rattle.view_lines.specs.declared.refusal.Refusal.TheVariants.{Line}

@@ -1,5 +1,5 @@
 -- How a text is cut into lines, one more part of it at a time.
-use Rattle.std.proofs.Common.{◌≡◌, ℕ, ◌+◌, ◌-◌, ◌<◌, ◌≤◌, Bool, true, false, eqb, List, [], ◌∷◌, ◌++◌, length, get_or, take, refl, sym, ap, ◌∙◌, append_assoc, inl, inr, arith, length-append, suc, ltb, drop, Some, None, add-one}
+use Rattle.std.proofs.Common.{◌≡◌, ℕ, ◌+◌, ◌-◌, ◌<◌, true, false, List, [], ◌∷◌, ◌++◌, length, get_or, take, refl, sym, ap, ◌∙◌, append_assoc, inl, inr, arith, length-append, ltb, drop, Some, None, add-one}
 use Rattle.std.specs.List.{All, slice_split, onto_first, flat_map, position, position_or_len}
 use Rattle.std.proofs.lemmas.Bool.{cases_Bool, eqb-true, ltb-false}
 use Rattle.std.proofs.lemmas.Grind.{flat_map-append}
@@ -9,7 +9,7 @@ use Rattle.std.proofs.lemmas.List.Quantifiers.{position-Some}
 use Rattle.std.proofs.lemmas.List.Sums.{fails_before_first}
 use Rattle.std.proofs.lemmas.List.Splits.{slice_split_none}
 use Rattle.std.proofs.Math.Seq.{drop-cons, take-append_seam, get_or-append_seam}
-use Rattle.sessions.specs.Lines.{Item, LINE, is_lf, lines, rest, items_of, commands, whole}
+use Rattle.sessions.specs.Lines.{is_lf, lines, rest, items_of, commands}
 
 -- a text has no LF
 abbrev pub IsUnbroken : List ℕ → Type 0

@@ -1,5 +1,5 @@
 -- What a session has listened to when it ends, by why it ends.
-use Rattle.std.proofs.Common.{◌≡◌, ℕ, ◌+◌, ◌-◌, ◌<◌, ◌≤◌, List, [], ◌∷◌, ◌++◌, length, take, Option, Some, None, IfSome, Result, Ok, Err, OnOk, OnErr, is_err, true, min, refl, sym, ap, subst, ◌∙◌, ◌⊎◌, inl, inr, arith, length-append}
+use Rattle.std.proofs.Common.{◌≡◌, ℕ, ◌+◌, ◌≤◌, List, [], ◌++◌, length, take, Option, Some, None, IfSome, Result, Ok, Err, OnOk, OnErr, is_err, true, min, refl, sym, ap, subst, ◌∙◌, ◌⊎◌, inl, inr, arith, length-append}
 use Rattle.std.proofs.lemmas.List.{append-nil, append_assoc, take_all, length-take, take-append-le}
 use Rattle.std.proofs.Math.Seq.{take-append_seam}
 use Rattle.view_ends.specs.Ends.{Leaves, Ended}
@@ -7,7 +7,7 @@ use Rattle.view_ends.specs.declared.fault.EndFault.{EndFault}
 use Rattle.view_ends.specs.declared.fault.EndFault.TheVariants as fault
 use Rattle.view_meaning.specs.Classes as meaning
 use Rattle.view_meaning.specs.Survey.{format_of}
-use Rattle.sessions.specs.declared.end.Reason.TheVariants.{Finished, ReadFault, SessionLimit, WriteFault, Memory}
+use Rattle.sessions.specs.declared.end.Reason.TheVariants.{Finished, ReadFault, SessionLimit, Memory}
 use Rattle.sessions.specs.declared.talk.Talk.{Talk}
 use Rattle.sessions.specs.declared.pending.Pending.{Pending}
 use Rattle.sessions.specs.Lines.{Item, commands, whole}

@@ -27,7 +27,9 @@ const PIECE: usize = 1 << 14;
 /// Serves one session that alone edits: answers each line of its input in order, and writes each
 /// reply before it asks for bytes that come after the line.
 ///
-/// The history is empty at first, and then has the session's entries, with the number 1.
+/// The history is empty at first, and then has the session's entries, with the number 1. Which
+/// lines it processed is known by its input, how many bytes of it were taken, why it ended and how
+/// many marks it has.
 pub fn serve_alone<I: Source, O: Sink, B: Beside>(
     alloc: Global,
     scene: &Scene,

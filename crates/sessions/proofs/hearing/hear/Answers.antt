@@ -1,12 +1,10 @@
-use Rattle.std.proofs.Common.{◌≡◌, ◌++◌, ◌∷◌, ◌∙◌, [], ◌+◌, length, take, drop, sym, ap, subst, refl, rules, arith, Some, None, is_ok, false, true, List, ℕ, Option}
+use Rattle.std.proofs.Common.{◌≡◌, ◌++◌, ◌∷◌, ◌∙◌, [], ◌+◌, length, take, drop, sym, ap, rules, arith, Some, is_ok, List, ℕ, Option}
 use Rattle.std.specs.List.{position}
 use Rattle.std.specs.Arc.{arc_value}
-use Rattle.std.proofs.lemmas.List.{append_assoc, take_all, append-nil, length-drop}
-use Rattle.view_meaning.specs.Survey.{format_of}
-use Rattle.sessions.specs.Lines.{is_lf, rest, items_of, commands}
-use Rattle.sessions.specs.Talk.{AnsweredAll, GaveUp}
+use Rattle.std.proofs.lemmas.List.{append_assoc, take_all, length-drop}
+use Rattle.sessions.specs.Lines.{is_lf, rest}
 use Rattle.sessions.specs.Hearing.{HasHeard}
-use Rattle.sessions.proofs.Lines.{IsUnbroken, unbroken, unbroken_front}
+use Rattle.sessions.proofs.Lines.{unbroken, unbroken_front}
 use Rattle.sessions.proofs.Heard.{heard_part, heard_line, heard_gave_up, cut_piece, heard_as, gave_up_as, regroup, regroup_lf, tail_on}
 use Rattle.sessions.proofs.hearing.hear.Goals as goal
 

@@ -1,7 +1,7 @@
-use Rattle.std.proofs.Common.{◌≡◌, ◌<◌, ◌≤◌, ◌∙◌, length, ap, subst, sym, rules, arith, is_ok, List, ℕ, Option}
+use Rattle.std.proofs.Common.{◌<◌, length, ap, rules, arith, is_ok, List, ℕ, Option}
 use Rattle.std.specs.Arc.{arc_value}
 use Rattle.sessions.specs.Lines.{rest}
-use Rattle.sessions.specs.Hearing.{HasHeard, IsPending}
+use Rattle.sessions.specs.Hearing.{HasHeard}
 use Rattle.sessions.proofs.Heard.{some_long, some_kept, none_kept, heard_end, end_gave_up, heard_all}
 use Rattle.sessions.proofs.hearing.hear_end.Goals as goal
 use Rattle.sessions.proofs.hearing.hear_end.Goals.{then-pending-via-then-pending, then-pending-via-else-pending+then-len-gt0}

@@ -1,5 +1,5 @@
-use Rattle.std.proofs.Common.{◌≡◌, sym, ap, subst, ◌∙◌, rules, arith}
-use Rattle.std.proofs.Common.{refl, [], List, ℕ}
+use Rattle.std.proofs.Common.{ap, subst, ◌∙◌}
+use Rattle.std.proofs.Common.{refl, []}
 use Rattle.std.specs.Arc.{arc_value}
 use Rattle.view_meaning.specs.Classes.{classes}
 use Rattle.view_meaning.specs.Survey.{format_of}
