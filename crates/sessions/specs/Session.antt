@@ -41,6 +41,10 @@ pub record Processed (format : ℕ) (input : List ℕ) (taken : ℕ) (reason : r
   pub few : taken ≤ LIMIT + 1
   pub items_are : MayProcess format input taken items reason
 
+-- of the lists of items of which this holds, those of the same length are one
+abbrev pub AtMostOne : (List Item → Type 0) → Type 0
+AtMostOne P = (items others : List Item) → length items ≡ length others → P items → P others → items ≡ others
+
 -- the entries of a caller after the first so many of a history, each with the newest version once it was made
 unfoldable pub own : ℕ → ℕ → List Entry → List (Entry × ℕ)
 own who seen h = filter (λ (at : Entry × ℕ). at.0.who == who) (drop seen (numbered h))

@@ -1,7 +1,8 @@
 ghost use Rattle.std.specs.Prelude.{◌≡◌, ◌≤◌, ◌++◌, ◌∷◌, [], List, ℕ, Option, OnOk, OnErr, is_ok, length};
 ghost use Rattle.std.specs.Arc.{arc_value};
 ghost use Rattle.view_meaning.specs.Survey.{format_of};
-ghost use Rattle.sessions.specs.Lines.{commands, whole, items_of};
+ghost use Rattle.std.specs.List.{position};
+ghost use Rattle.sessions.specs.Lines.{is_lf, commands, whole, items_of};
 ghost use Rattle.sessions.specs.Talk.{IsAnswering, IsSound, AnsweredAll, GaveUp};
 ghost use Rattle.sessions.specs.Hearing.{HasHeard, IsPending};
 ghost use Rattle.sessions.specs.Giving.{Gave};
@@ -31,13 +32,20 @@ pub(crate) fn hear<O: Sink, B: Beside>(
     ensures gave { Gave (O.faults sink.old) (O.faults sink.new) result }
 {
     let mut rest = piece;
-    while let Some(length) = rest.iter().position(|byte| *byte == b'\n') {
+    while let Some(length) = first_lf(rest) {
         pending.add(&rest[..length]);
         answer_pending(alloc, scene, talk, pending, beside, sink)?;
         rest = &rest[length + 1..];
     }
     pending.add(rest);
     Ok(())
+}
+
+/// The place of the first LF of a piece.
+fn first_lf(piece: &[u8]) -> Option<usize>
+    ensures { result ≡ position is_lf piece.now }
+{
+    piece.iter().position(|byte| *byte == b'\n')
 }
 
 /// Answers the line that was read, and begins the next one.
