@@ -7,4 +7,4 @@ mod Heard
 mod Taking
 mod Processing
 mod Examples
-pub mod Answered
+mod Answered

@@ -1,6 +1,6 @@
 -- What one session does: which items it may have processed, which entries of the history are its own, under
 -- which marks it answered, and what its output got.
-use Rattle.std.specs.Prelude.{◌≡◌, ℕ, ◌+◌, ◌-◌, ◌^◌, ◌<◌, ◌≤◌, ◌==◌, ◌⊎◌, ◌↔◌, nat_lt, min, List, [], ◌∷◌, ◌++◌, length, take, drop, filter, slice_index, slice_get, Option, Some, IfSome, Result, Ok, Err}
+use Rattle.std.specs.Prelude.{◌≡◌, ℕ, ◌+◌, ◌-◌, ◌^◌, ◌<◌, ◌≤◌, ◌==◌, ◌⊎◌, ◌↔◌, min, List, [], ◌∷◌, ◌++◌, length, take, drop, filter, slice_index, slice_get, Option, Some, IfSome, Ok, Err}
 use Rattle.view_ends.specs.Ends.{Gains}
 use Rattle.view_meaning.specs.Classes as meaning
 use Rattle.view_meaning.specs.Survey.{format_of}

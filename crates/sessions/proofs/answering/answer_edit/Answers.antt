@@ -1,4 +1,4 @@
-use Rattle.std.proofs.Common.{◌≡◌, ◌∙◌, ◌++◌, List, ℕ, ap}
+use Rattle.std.proofs.Common.{◌∙◌, ◌++◌, List, ℕ, ap}
 use Rattle.std.specs.Arc.{arc_value}
 use Rattle.sessions.proofs.Adding.{newest-entries, sound_stays}
 use Rattle.std.specs.Prelude.{codes}

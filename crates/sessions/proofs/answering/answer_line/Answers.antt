@@ -1,4 +1,4 @@
-use Rattle.std.proofs.Common.{◌≡◌, ◌∙◌, List, ℕ, ap, sym, refl, rules, Ok, Err}
+use Rattle.std.proofs.Common.{◌∙◌, ap, refl, rules, Ok, Err}
 use Rattle.std.specs.Arc.{arc_value}
 use Rattle.view_meaning.specs.Survey.{format_of}
 use Rattle.sessions.proofs.Answered.{items-wordless, items-one, answered_items}

@@ -1,4 +1,4 @@
-use Rattle.std.proofs.Common.{◌≡◌, ◌∙◌, ◌++◌, List, ℕ, ap, sym, Err, decimal}
+use Rattle.std.proofs.Common.{◌∙◌, ◌++◌, List, ℕ, ap, sym, Err, decimal}
 use Rattle.std.specs.Arc.{arc_value}
 use Rattle.std.specs.Prelude.{codes}
 use Rattle.sessions.proofs.Adding.{sound_stays, adds_stays, adds_refused, last_reply-refused}

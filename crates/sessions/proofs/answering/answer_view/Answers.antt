@@ -1,7 +1,7 @@
-use Rattle.std.proofs.Common.{◌≡◌, ◌∙◌, ◌++◌, List, ℕ, ap, refl}
+use Rattle.std.proofs.Common.{◌∙◌, ◌++◌, List, ℕ, ap, refl}
 use Rattle.std.specs.Arc.{arc_value}
 use Rattle.std.specs.Prelude.{codes}
-use Rattle.view_meaning.specs.Picture.{View as PictureView, picture}
+use Rattle.view_meaning.specs.Picture.{View as PictureView}
 use Rattle.sessions.specs.Replies.{head}
 use Rattle.sessions.proofs.Answered.{kept-records, picture-size, answered_view}
 use Rattle.sessions.proofs.answering.answer_view.Goals as goal

@@ -1,4 +1,4 @@
-use Rattle.std.proofs.Common.{◌≡◌, rules, ap, ◌∙◌, true, is_ok}
+use Rattle.std.proofs.Common.{◌≡◌, rules, ap, ◌∙◌, is_ok}
 use Rattle.sessions.proofs.Heard.{answered_long, answered_same}
 use Rattle.sessions.proofs.hearing.answer_pending.Goals as goal
 use Rattle.sessions.proofs.hearing.answer_pending.Goals.{then-pending+in_ok-answer_refusal, else-pending+in_ok-answer_line}

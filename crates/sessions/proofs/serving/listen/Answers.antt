@@ -1,6 +1,5 @@
 use Rattle.std.proofs.Common.{◌≡◌, ◌≤◌, ◌∙◌, ◌++◌, length, take, drop, true, is_err, rules, arith}
 use Rattle.sessions.specs.Session.{LIMIT}
-use Rattle.sessions.specs.Listening.{reason_of}
 use Rattle.sessions.proofs.Taking.{listened_fault, listened_limit, listened_last, listened_piece, leaves_more, leaves_none, leaves_front, fits_front, taken_many, taken_more}
 use Rattle.std.proofs.lemmas.List.{length-take}
 use Rattle.sessions.proofs.serving.listen.Goals as goal
