@@ -1,5 +1,3 @@
-pub mod Words
 pub mod Desk
 pub mod Files
 pub mod Status
-pub mod Draw

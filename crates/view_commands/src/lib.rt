@@ -2,12 +2,7 @@
 //! written, and the status that each ends with.
 #![tactic(auto)]
 
-mod drawing;
 mod files;
-mod running;
 mod status;
-mod words;
 
-pub use drawing::draw;
-pub use running::run;
 pub use status::{Status, code};
