@@ -2,7 +2,13 @@
 //! written, and the status that each ends with.
 #![tactic(auto)]
 
+mod drawing;
 mod files;
+mod running;
 mod status;
+mod told;
 
+pub use drawing::draw;
+pub use running::run;
 pub use status::{Status, code};
+pub use told::{Ended, Told};
