@@ -1,5 +1,5 @@
 -- The one row whose words fit.
-use Rattle.std.proofs.Common.{◌≡◌, ℕ, List, Bool, Some, None, subst}
+use Rattle.std.proofs.Common.{◌≡◌, ℕ, List, Bool, None, subst}
 use Rattle.view_words.specs.CommandLine.{IsLine, all_rows, badword}
 use Rattle.view_words.specs.declared.row.Row.{Row}
 use Rattle.view_words.proofs.Refusals.{row_in-line}

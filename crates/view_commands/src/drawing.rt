@@ -28,12 +28,7 @@ const OUT: u32 = 2;
 ///
 /// The picture is whole in memory before its file is opened, so no refusal before that touches a
 /// file. How many workers draw it changes no byte.
-pub fn draw<D: Desk, B: Beside>(
-    alloc: Global,
-    words: &[String],
-    desk: &mut D,
-    beside: &B,
-) -> Status
+pub fn draw<D: Desk, B: Beside>(alloc: Global, words: &[String], desk: &mut D, beside: &B) -> Status
     ensures { Answers D.tells (record { file = D.file desk.old; reads = D.read_faults desk.old; writes = D.write_faults desk.old; taken = D.taken desk.old; unkept = D.unkept desk.old }) (record { file = D.file desk.new; reads = D.read_faults desk.new; writes = D.write_faults desk.new; taken = D.taken desk.new; unkept = D.unkept desk.new }) (texts words.now) result }
 {
     match read_row(Row::Draw, words) {
