@@ -1,5 +1,5 @@
-pub mod Words
 pub mod Desk
 pub mod Files
 pub mod Status
-pub mod Draw
+pub mod Journal
+pub mod Serve

@@ -2,12 +2,12 @@
 //! written, and the status that each ends with.
 #![tactic(auto)]
 
-mod drawing;
 mod files;
-mod running;
+mod journal;
+mod opening;
+mod serving;
 mod status;
-mod words;
+mod told;
 
-pub use drawing::draw;
-pub use running::run;
 pub use status::{Status, code};
+pub use told::{Ended, Told};
