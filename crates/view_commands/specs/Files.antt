@@ -4,7 +4,8 @@ use Rattle.las_survey.specs.Fault.{fault_of}
 use Rattle.las_survey.specs.declared.fault.SurveyFault.{SurveyFault}
 use Rattle.las_survey.specs.declared.loading.TheConstants.{LIMIT}
 use Rattle.view_ends.specs.Ends.{Rose, RoseBy, AllStay, OthersStay, NoneFalls}
-use Rattle.view_meaning.specs.Layout.{IsLaid, fault}
+use Rattle.view_meaning.specs.Layout as layout
+use Rattle.view_meaning.specs.Layout.{IsLaid}
 use Rattle.view_commands.specs.Desk.{Said}
 use Rattle.view_commands.specs.declared.files.SurveyRefusal as refusal
 use Rattle.view_commands.specs.declared.files.SurveyRefusal.TheVariants as survey
@@ -26,7 +27,7 @@ pub record ReadsSurvey (tells : Bool) (old new : Said) (name : List ℕ) (result
   pub read_fault : IsErrOf result survey.Read → Rose (old.reads name) (new.reads name)
   pub too_long : IsErrOf result survey.TooLong → RoseBy (LIMIT + 1) (old.taken name) (new.taken name)
   pub too_many : IsErrOf result survey.TooLong → IfSome (old.file name) (λ b. LIMIT < length b)
-  pub survey : (fault_told : SurveyFault) → IsErrOf result (survey.Survey fault_told) → (b : List ℕ) × TakenToTheEnd old new name b × (fault b ≡ Some (fault_of fault_told))
+  pub survey : (fault : SurveyFault) → IsErrOf result (survey.Survey fault) → (b : List ℕ) × TakenToTheEnd old new name b × (layout.fault b ≡ Some (fault_of fault))
   pub files : AllStay old.file new.file
   pub writes : AllStay old.writes new.writes
   pub unkept : AllStay old.unkept new.unkept
