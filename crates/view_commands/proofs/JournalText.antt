@@ -30,3 +30,8 @@ pub journal_text-more : (h : List Entry) (entry : Entry) → journal_text (journ
 journal_text-more h entry =
     ap journal_text (journal-append h (entry ∷ []) ∙ ap (λ (l : List meaning.Edit). journal h ++ l) (journal-one entry))
     ∙ journal_text-append (journal h) (edit_in entry.what)
+
+-- one more line
+pub line_appended : (text mid : List ℕ) (edit : meaning.Edit) → mid ≡ text ++ canonical edit → mid ++ 10 ∷ [] ≡ text ++ journal_text (edit ∷ [])
+line_appended text mid edit is =
+    ap (λ (l : List ℕ). l ++ 10 ∷ []) is ∙ append_assoc text (canonical edit) (10 ∷ []) ∙ ap (λ (l : List ℕ). text ++ l) (sym (journal_text-one edit))

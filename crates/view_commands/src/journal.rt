@@ -55,6 +55,7 @@ fn give_journal<S: Sink>(
 }
 
 /// The canonical line and LF of each edit that a history published, in order.
+#[tactic(auto, unfolding(crate::specs::Journal::journal_text, sessions::specs::Histories::journal))]
 fn journal_text(alloc: Global, history: &[Entry]) -> Result<Bytes, OutOfMemory>
     ensures { IfOk result (λ text. text.items ≡ journal_text (journal history.now)) }
 {
@@ -66,6 +67,7 @@ fn journal_text(alloc: Global, history: &[Entry]) -> Result<Bytes, OutOfMemory>
 }
 
 /// Appends the canonical line and LF of the edit that an entry published, if it did.
+#[tactic(auto, unfolding(crate::specs::Journal::journal_text))]
 fn append_entry(entry: &Entry, text: &mut Bytes) -> Result<(), OutOfMemory>
     ensures { OnOk result (text.new.items ≡ text.old.items ++ journal_text (edit_in entry.now.what)) }
 {
