@@ -1,3 +1,6 @@
 pub mod Taken
 pub mod Lines
 pub mod JournalText
+pub mod Counts
+pub mod Runs
+pub mod OneSession

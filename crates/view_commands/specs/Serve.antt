@@ -46,11 +46,14 @@ IsAsWasOrEmpty tells old new name = (new.file name ≡ old.file name) ⊎ (IsTru
 abbrev pub OtherFilesStay : Said → Said → List ℕ → List ℕ → Type 0
 OtherFilesStay old new output journal = (other : List ℕ) → other ≢ output → other ≢ journal → new.file other ≡ old.file other
 
--- two written names may have been opened, and no file is otherwise than it was but for that
+-- no file is otherwise than it was, but that these two may be empty
 pub record MayEmpty (tells : Bool) (old new : Said) (journal output : List ℕ) : Type 0 where
   pub output_file : IsAsWasOrEmpty tells old new output
   pub journal_file : IsAsWasOrEmpty tells old new journal
   pub files : OtherFilesStay old new output journal
+
+-- the counts of faults after files were opened: none fell, and nothing was kept
+pub record OnlyOpens (old new : Said) : Type 0 where
   pub reads : NoneFalls old.reads new.reads
   pub writes : NoneFalls old.writes new.writes
   pub unkept : AllStay old.unkept new.unkept
@@ -68,7 +71,8 @@ pub record AreFresh (tells : Bool) (taken faults : ℕ) (output journal : Option
 pub record OpensEnds (tells : Bool) (old new : Said) (journal input output : List ℕ) (left : Option (List ℕ)) : Type 0 where
   pub bytes : left ≡ old.file input
   pub there : IsTrue tells → IsSome (old.file input)
-  pub opened : MayEmpty tells old new journal output
+  pub emptied : MayEmpty tells old new journal output
+  pub counts : OnlyOpens old new
   pub taken : AllStay old.taken new.taken
 
 -- the cause of a refusal to open an input and two outputs
@@ -121,9 +125,7 @@ pub record Refuses (tells : Bool) (old new : Said) (survey journal input output 
   pub history : ended.told.history.items ≡ []
   pub journal_reason : ended.told.journal ≡ why.Finished
   pub cause : Cause old new survey journal input output ended.status
-  pub output_file : IsAsWasOrEmpty tells old new output
-  pub journal_file : IsAsWasOrEmpty tells old new journal
-  pub files : OtherFilesStay old new output journal
+  pub emptied : MayEmpty tells old new journal output
   -- and how it ends where nothing outside failed
   pub unserved : IsTrue tells → (b : List ℕ) → old.file survey ≡ Some b → (Rose (old.reads survey) (new.reads survey) → ⊥) → EndsUnserved b ended.status
   pub settled : IsTrue tells → (b : List ℕ) → old.file survey ≡ Some b → length b ≤ LIMIT → IsLaid b
@@ -162,7 +164,6 @@ pub record Runs (tells : Bool) (old new : Said) (journal_name input output b : L
   pub given_back : IsGivenBack ended.told.history.items
   pub newest_held : (callers : ℕ) → held callers ended.told.history.items ≡ (length (journal ended.told.history.items), 0) ∷ []
   pub taken_more : RoseBy end.taken (old.taken input) (new.taken input)
-  pub taken_others : OthersStay old.taken new.taken input
   pub cause : EndCause old new input output end.reason
   -- what came of keeping the output
   pub kept : reason.Reason
@@ -180,7 +181,8 @@ pub record Runs (tells : Bool) (old new : Said) (journal_name input output b : L
 abbrev pub RunsOpened : Bool → Said → Said → List ℕ → List ℕ → List ℕ → List ℕ → Option (List ℕ) → told.Ended → List SessionEnd → Type 0
 RunsOpened tells old new journal input output b left ended [] =
     (ended.status ≡ Memory) × (ended.told.history.items ≡ []) × (ended.told.journal ≡ why.Finished) × AllStay old.file new.file
-RunsOpened tells old new journal input output b left ended (end ∷ []) = Runs tells old new journal input output b left end ended
+RunsOpened tells old new journal input output b left ended (end ∷ []) =
+    OthersStay old.taken new.taken input × Runs tells old new journal input output b left end ended
 RunsOpened tells old new journal input output b left ended _ = ⊥
 
 -- a session over the survey of one name, from one name into another, and the journal in a third
@@ -208,5 +210,5 @@ abbrev pub ServesSurvey : Bool → Said → Said → List ℕ → List ℕ → L
 ServesSurvey tells old new journal input output b ended [] =
     (ended.told.history.items ≡ []) × (ended.told.journal ≡ why.Finished) × EndsCause old new journal input output ended.status × MayEmpty tells old new journal output
 ServesSurvey tells old new journal input output b ended (end ∷ []) =
-    (IsTrue tells → IsSome (old.file input)) × Runs tells old new journal input output b (old.file input) end ended
+    (IsTrue tells → IsSome (old.file input)) × OthersStay old.taken new.taken input × Runs tells old new journal input output b (old.file input) end ended
 ServesSurvey tells old new journal input output b ended _ = ⊥

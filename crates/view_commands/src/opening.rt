@@ -1,6 +1,6 @@
 ghost use Rattle.std.specs.Prelude.{◌≡◌, ◌≢◌, IsTrue, IfOk, IfErr, OnOk};
 ghost use Rattle.view_ends.specs.Ends.{AllStay, NoneForgotten};
-ghost use Rattle.view_commands.specs.Serve.{MayEmpty, AreFresh, OpensEnds, EndsCause, WrittenCause};
+ghost use Rattle.view_commands.specs.Serve.{MayEmpty, OnlyOpens, AreFresh, OpensEnds, EndsCause, WrittenCause};
 
 use crate::status::Status;
 use view_ends::{Desk, EndFault};
@@ -78,6 +78,7 @@ fn open_outputs<D: Desk>(desk: &mut D, names: Names) -> Result<Outputs<D::Out>, 
     ensures journal_known { OnOk result (D.known desk.new names.entry.journal.now) }
     ensures cause { IfErr result (λ status. WrittenCause (record { file = D.file desk.old; reads = D.read_faults desk.old; writes = D.write_faults desk.old; taken = D.taken desk.old; unkept = D.unkept desk.old }) (record { file = D.file desk.new; reads = D.read_faults desk.new; writes = D.write_faults desk.new; taken = D.taken desk.new; unkept = D.unkept desk.new }) names.entry.journal.now names.entry.output.now status) }
     ensures files { MayEmpty D.tells (record { file = D.file desk.old; reads = D.read_faults desk.old; writes = D.write_faults desk.old; taken = D.taken desk.old; unkept = D.unkept desk.old }) (record { file = D.file desk.new; reads = D.read_faults desk.new; writes = D.write_faults desk.new; taken = D.taken desk.new; unkept = D.unkept desk.new }) names.entry.journal.now names.entry.output.now }
+    ensures counts { OnlyOpens (record { file = D.file desk.old; reads = D.read_faults desk.old; writes = D.write_faults desk.old; taken = D.taken desk.old; unkept = D.unkept desk.old }) (record { file = D.file desk.new; reads = D.read_faults desk.new; writes = D.write_faults desk.new; taken = D.taken desk.new; unkept = D.unkept desk.new }) }
     ensures reads { AllStay (D.read_faults desk.old) (D.read_faults desk.new) }
     ensures taken { AllStay (D.taken desk.old) (D.taken desk.new) }
     ensures known { NoneForgotten (D.known desk.old) (D.known desk.new) }

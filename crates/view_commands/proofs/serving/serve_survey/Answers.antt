@@ -1,0 +1,11 @@
+use Rattle.view_commands.specs.Desk.{Said}
+use Rattle.view_commands.proofs.OneSession.{survey_served}
+use Rattle.view_commands.proofs.serving.serve_survey.Goals as goal
+
+pub returns-in-Ok-open_ends : goal.returns-in-Ok-open_ends
+returns-in-Ok-open_ends g c =
+    let old : Said = record { file = g.D.Desk.file c.args.desk.now; reads = g.D.Desk.read_faults c.args.desk.now; writes = g.D.Desk.write_faults c.args.desk.now; taken = g.D.Desk.taken c.args.desk.now; unkept = g.D.Desk.unkept c.args.desk.now } in
+    let mid : Said = record { file = g.D.Desk.file c.open_ends.new.desk; reads = g.D.Desk.read_faults c.open_ends.new.desk; writes = g.D.Desk.write_faults c.open_ends.new.desk; taken = g.D.Desk.taken c.open_ends.new.desk; unkept = g.D.Desk.unkept c.open_ends.new.desk } in
+    let new : Said = record { file = g.D.Desk.file c.serve_opened.new.desk; reads = g.D.Desk.read_faults c.serve_opened.new.desk; writes = g.D.Desk.write_faults c.serve_opened.new.desk; taken = g.D.Desk.taken c.serve_opened.new.desk; unkept = g.D.Desk.unkept c.serve_opened.new.desk } in
+    survey_served g.D.Desk.tells old mid new c.args.names.journal.now c.args.names.input.now c.args.names.output.now c.args.survey (g.D.In.Source.left c.in-Ok-open_ends.ends.input)
+        c.serve_opened.result c.serve_opened.result.told.sessions.items c.in-Ok-open_ends.ensures.opened c.serve_opened.ensures
