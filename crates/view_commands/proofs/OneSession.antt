@@ -145,8 +145,8 @@ one_served tells old mid new survey journal input output b ended (end ∷ other 
 -- the survey is none
 pub no_survey : (tells : Bool) (old new : Said) (survey journal input output b : List ℕ) (found : SurveyFault) (ended : told.Ended) (ends : List SessionEnd) → ends ≡ [] → ended.told.history.items ≡ [] → ended.told.journal ≡ why.Finished
     → ended.status ≡ Survey found → TakenToTheEnd old new survey b → fault b ≡ Some (fault_of found) → AllStay old.file new.file → ServesOne tells old new survey journal input output ended ends
-no_survey tells old new survey journal input output b found ended ends none history journal_reason status read at_fault files =
-    let cause : Cause old new survey journal input output ended.status = subst (λ (s : status.Status). Cause old new survey journal input output s) (sym status) (b, read, at_fault) in
+no_survey tells old new survey journal input output b found ended ends none history journal_reason is_status read at_fault files =
+    let cause : Cause old new survey journal input output ended.status = subst (λ (s : status.Status). Cause old new survey journal input output s) (sym is_status) (b, read, at_fault) in
     let refuses : Refuses tells old new survey journal input output ended = record {
       history = history;
       journal_reason = journal_reason;
@@ -162,7 +162,7 @@ no_survey tells old new survey journal input output b found ended ends none hist
           let few = read.few in
           record {
             too_long = λ long. absurd (omega (arith, long, sizes, few));
-            not_laid = λ short unlaid. inl (found, status, ap fault same ∙ at_fault);
+            not_laid = λ short unlaid. inl (found, is_status, ap fault same ∙ at_fault);
           };
       settled = λ tell c is short fine calm. cause_settled old new survey journal input output c ended.status cause is short fine calm;
     } in
