@@ -1,3 +1,5 @@
+pub mod Endings
+pub mod Rows
 pub mod Taken
 pub mod Lines
 pub mod JournalText

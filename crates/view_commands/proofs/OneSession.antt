@@ -10,16 +10,17 @@ use Rattle.sessions.specs.declared.end.SessionEnd.{SessionEnd}
 use Rattle.sessions.specs.declared.end.Reason.TheVariants as why
 use Rattle.view_commands.specs.Desk.{Said}
 use Rattle.view_commands.specs.Files.{TakenToTheEnd}
-use Rattle.view_commands.specs.Serve.{Runs, RunsOpened, OpensEnds, ServesSurvey, ServesOne, Serves, Refuses, MayEmpty, IsAsWasOrEmpty, EndsCause, Cause, NoneRose}
+use Rattle.view_commands.specs.Told.{IsNothing}
+use Rattle.view_commands.specs.Serve.{RunsSession, RunsOpened, OpensEnds, ServesSurvey, ServesEnds, Serves, Refuses, MayEmpty, IsAsWasOrEmpty, EndsCause, Cause, NoneRose}
 use Rattle.view_commands.specs.declared.status.Status as status
 use Rattle.view_commands.specs.declared.status.Status.TheVariants.{Done, Words, Limit, OpenFault, ReadFault, TooLong, Survey, WriteFault, SessionLimit, Memory, NotYet}
 use Rattle.view_commands.specs.declared.told.Ended as told
-use Rattle.view_commands.proofs.Counts.{rose_earlier}
+use Rattle.view_commands.proofs.Counts.{rose_earlier, at_most}
 use Rattle.view_commands.proofs.Runs.{runs_earlier, runs_settled, runs_limit}
 
 -- one end
 pub one_ran : (tells : Bool) (old new : Said) (journal input output b : List ℕ) (left : Option (List ℕ)) (end : SessionEnd) (ended : told.Ended) (ends : List SessionEnd) → ends ≡ end ∷ []
-    → OthersStay old.taken new.taken input → Runs tells old new journal input output b left end ended → RunsOpened tells old new journal input output b left ended ends
+    → OthersStay old.taken new.taken input → RunsSession tells old new journal input output b left end ended → RunsOpened tells old new journal input output b left ended ends
 one_ran tells old new journal input output b left end ended ends one taken runs =
     subst (λ (l : List SessionEnd). RunsOpened tells old new journal input output b left ended l) (sym one) (taken, runs)
 
@@ -33,23 +34,26 @@ stayed : (tells : Bool) (old mid new : Said) (name : List ℕ) → mid.file name
 stayed tells old mid new name same (inl was) = inl (was ∙ same)
 stayed tells old mid new name same (inr empty) = inr empty
 
+at_most_same : (a b c : ℕ) → b ≡ a → c ≤ b → c ≤ a
+at_most_same a b c same le = omega (arith, same, le)
+
 -- the ends were opened, and then served
 pub survey_served : (tells : Bool) (old mid new : Said) (journal input output b : List ℕ) (left : Option (List ℕ)) (ended : told.Ended) (ends : List SessionEnd) → OpensEnds tells old mid journal input output left
     → RunsOpened tells mid new journal input output b left ended ends → ServesSurvey tells old new journal input output b ended ends
 survey_served tells old mid new journal input output b left ended [] opens runs = (
   runs.1,
-  runs.2,
   subst (λ (s : status.Status). EndsCause old new journal input output s) (sym runs.0) tt,
   record {
-    output_file = stays tells old mid new output (runs.3 output) opens.emptied.output_file;
-    journal_file = stays tells old mid new journal (runs.3 journal) opens.emptied.journal_file;
-    files = λ other no yes. runs.3 other ∙ opens.emptied.files other no yes;
+    output_file = stays tells old mid new output (runs.2 output) opens.emptied.output_file;
+    journal_file = stays tells old mid new journal (runs.2 journal) opens.emptied.journal_file;
+    files = λ other no yes. runs.2 other ∙ opens.emptied.files other no yes;
   },
+  at_most_same _ _ _ (opens.taken input) runs.3,
 )
 survey_served tells old mid new journal input output b left ended (end ∷ []) opens runs = (
   opens.there,
   λ other not_input. runs.0 other not_input ∙ opens.taken other,
-  subst (λ (o : Option (List ℕ)). Runs tells old new journal input output b o end ended) opens.bytes
+  subst (λ (o : Option (List ℕ)). RunsSession tells old new journal input output b o end ended) opens.bytes
       (runs_earlier tells old mid new journal input output b left end ended opens.counts.reads opens.counts.writes opens.counts.unkept (opens.taken input) opens.emptied.files runs.1),
 )
 survey_served tells old mid new journal input output b left ended (end ∷ other ∷ others) opens runs = absurd runs
@@ -100,18 +104,18 @@ cause_settled old new survey journal input output b NotYet cause is few laid cal
 -- the survey was read, and then served
 pub one_served : (tells : Bool) (old mid new : Said) (survey journal input output b : List ℕ) (ended : told.Ended) (ends : List SessionEnd) → survey ≢ input → TakenToTheEnd old mid survey b → (IsTrue tells → IsSome (old.file survey)) → IsLaid b
     → AllStay old.file mid.file → AllStay old.writes mid.writes → AllStay old.unkept mid.unkept → NoneFalls old.reads mid.reads → OthersStay old.taken mid.taken survey
-    → ServesSurvey tells mid new journal input output b ended ends → ServesOne tells old new survey journal input output ended ends
+    → ServesSurvey tells mid new journal input output b ended ends → ServesEnds tells old new survey journal input output ended ends
 one_served tells old mid new survey journal input output b ended [] apart read there laid files writes unkept reads taken served =
-    let cause = ends_cause old mid new survey journal input output ended.status reads writes served.2 in
+    let cause = ends_cause old mid new survey journal input output ended.status reads writes served.1 in
     record {
-      history = served.0;
-      journal_reason = served.1;
+      nothing = served.0;
       cause = cause;
       emptied = record {
-        output_file = stayed tells old mid new output (files output) served.3.output_file;
-        journal_file = stayed tells old mid new journal (files journal) served.3.journal_file;
-        files = λ other no yes. served.3.files other no yes ∙ files other;
+        output_file = stayed tells old mid new output (files output) served.2.output_file;
+        journal_file = stayed tells old mid new journal (files journal) served.2.journal_file;
+        files = λ other no yes. served.2.files other no yes ∙ files other;
       };
+      untaken = at_most_same _ _ _ (taken input (λ same. apart (sym same))) served.3;
       unserved = λ tell c is calm.
           let same : c ≡ b = told_bytes (old.file survey) b c is read.all in
           let sizes : length c ≡ length b = ap (λ (l : List ℕ). length l) same in
@@ -125,7 +129,7 @@ one_served tells old mid new survey journal input output b ended [] apart read t
 one_served tells old mid new survey journal input output b ended (end ∷ []) apart read there laid files writes unkept reads taken served =
     let no_falls : NoneFalls old.writes mid.writes = λ name. omega (arith, writes name) in
     let earlier = runs_earlier tells old mid new journal input output b (mid.file input) end ended reads no_falls unkept (taken input (λ same. apart (sym same))) (λ other no yes. files other) served.2 in
-    let runs : Runs tells old new journal input output b (old.file input) end ended = subst (λ (o : Option (List ℕ)). Runs tells old new journal input output b o end ended) (files input) earlier in
+    let runs : RunsSession tells old new journal input output b (old.file input) end ended = subst (λ (o : Option (List ℕ)). RunsSession tells old new journal input output b o end ended) (files input) earlier in
     record {
       b = b;
       read = record {
@@ -143,19 +147,19 @@ one_served tells old mid new survey journal input output b ended (end ∷ []) ap
 one_served tells old mid new survey journal input output b ended (end ∷ other ∷ others) apart read there laid files writes unkept reads taken served = absurd served
 
 -- the survey is none
-pub no_survey : (tells : Bool) (old new : Said) (survey journal input output b : List ℕ) (found : SurveyFault) (ended : told.Ended) (ends : List SessionEnd) → ends ≡ [] → ended.told.history.items ≡ [] → ended.told.journal ≡ why.Finished
-    → ended.status ≡ Survey found → TakenToTheEnd old new survey b → fault b ≡ Some (fault_of found) → AllStay old.file new.file → ServesOne tells old new survey journal input output ended ends
-no_survey tells old new survey journal input output b found ended ends none history journal_reason is_status read at_fault files =
+pub no_survey : (tells : Bool) (old new : Said) (survey journal input output b : List ℕ) (found : SurveyFault) (ended : told.Ended) (ends : List SessionEnd) → survey ≢ input → ends ≡ [] → IsNothing ended.told
+    → ended.status ≡ Survey found → TakenToTheEnd old new survey b → fault b ≡ Some (fault_of found) → AllStay old.file new.file → OthersStay old.taken new.taken survey → ServesEnds tells old new survey journal input output ended ends
+no_survey tells old new survey journal input output b found ended ends apart none nothing is_status read at_fault files taken =
     let cause : Cause old new survey journal input output ended.status = subst (λ (s : status.Status). Cause old new survey journal input output s) (sym is_status) (b, read, at_fault) in
     let refuses : Refuses tells old new survey journal input output ended = record {
-      history = history;
-      journal_reason = journal_reason;
+      nothing = nothing;
       cause = cause;
       emptied = record {
         output_file = inl (files output);
         journal_file = inl (files journal);
         files = λ other no yes. files other;
       };
+      untaken = at_most _ _ (sym (taken input (λ same. apart (sym same))));
       unserved = λ tell c is calm.
           let same : c ≡ b = told_bytes (old.file survey) b c is read.all in
           let sizes : length c ≡ length b = ap (λ (l : List ℕ). length l) same in
@@ -166,4 +170,4 @@ no_survey tells old new survey journal input output b found ended ends none hist
           };
       settled = λ tell c is short fine calm. cause_settled old new survey journal input output c ended.status cause is short fine calm;
     } in
-    subst (λ (l : List SessionEnd). ServesOne tells old new survey journal input output ended l) (sym none) refuses
+    subst (λ (l : List SessionEnd). ServesEnds tells old new survey journal input output ended l) (sym none) refuses

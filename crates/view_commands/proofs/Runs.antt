@@ -11,7 +11,7 @@ use Rattle.sessions.specs.Lines.{Item}
 use Rattle.sessions.specs.Session.{LIMIT, Processed}
 use Rattle.view_commands.specs.Desk.{Said}
 use Rattle.view_commands.specs.Journal.{KeptSo, WrittenSo}
-use Rattle.view_commands.specs.Serve.{Runs, OtherFilesStay, EndCause, NoneRose, status_of}
+use Rattle.view_commands.specs.Serve.{RunsSession, OtherFilesStay, EndCause, NoneRose, status_of}
 use Rattle.view_commands.specs.declared.status.Status as status
 use Rattle.view_commands.specs.declared.status.Status.TheVariants as state
 use Rattle.view_commands.specs.declared.told.Ended as told
@@ -19,7 +19,7 @@ use Rattle.view_commands.proofs.Counts.{rose_earlier, at_most, kept_earlier, wri
 
 -- the same run from an earlier state
 pub runs_earlier : (tells : Bool) (old mid new : Said) (journal input output b : List ℕ) (left : Option (List ℕ)) (end : SessionEnd) (ended : told.Ended) → NoneFalls old.reads mid.reads → NoneFalls old.writes mid.writes
-    → AllStay old.unkept mid.unkept → mid.taken input ≡ old.taken input → OtherFilesStay old mid output journal → Runs tells mid new journal input output b left end ended → Runs tells old new journal input output b left end ended
+    → AllStay old.unkept mid.unkept → mid.taken input ≡ old.taken input → OtherFilesStay old mid output journal → RunsSession tells mid new journal input output b left end ended → RunsSession tells old new journal input output b left end ended
 runs_earlier tells old mid new journal input output b left end ended reads writes unkept taken files runs = record {
   start = runs.start;
   got = runs.got;
@@ -79,7 +79,7 @@ input_is : (left : Option (List ℕ)) (input i : List ℕ) → left ≡ Some i �
 input_is None input i is told = absurd (cc is)
 input_is (Some all) input i is told = let same : all ≡ i = cc is in sym same ∙ told
 
-pub runs_settled : (tells : Bool) (old new : Said) (survey journal input output b i : List ℕ) (left : Option (List ℕ)) (end : SessionEnd) (ended : told.Ended) → Runs tells old new journal input output b left end ended
+pub runs_settled : (tells : Bool) (old new : Said) (survey journal input output b i : List ℕ) (left : Option (List ℕ)) (end : SessionEnd) (ended : told.Ended) → RunsSession tells old new journal input output b left end ended
     → left ≡ Some i → length i ≤ LIMIT → NoneRose old new survey journal input output
     → ((ended.status ≡ state.Done) × (end.reason ≡ Finished) × (end.taken ≡ length i)) ⊎ (ended.status ≡ state.Memory)
 runs_settled tells old new survey journal input output b i left end ended runs is few calm =
@@ -110,7 +110,7 @@ limited old new journal output Finished Finished WriteFault keeping wrote is = a
 limited old new journal output Finished Finished Memory keeping wrote is = absurd (cc is)
 limited old new journal output Finished Finished Finished keeping wrote is = absurd (cc is)
 
-pub runs_limit : (tells : Bool) (old new : Said) (journal input output b : List ℕ) (left : Option (List ℕ)) (end : SessionEnd) (ended : told.Ended) → Runs tells old new journal input output b left end ended
+pub runs_limit : (tells : Bool) (old new : Said) (journal input output b : List ℕ) (left : Option (List ℕ)) (end : SessionEnd) (ended : told.Ended) → RunsSession tells old new journal input output b left end ended
     → (ended.status ≡ state.SessionLimit 4) ↔ (end.taken ≡ LIMIT + 1)
 runs_limit tells old new journal input output b left end ended runs = (
   λ is. runs.served.processed.limit.0 (limited old new journal output end.reason runs.kept ended.told.journal runs.keeping runs.journal_cause (sym runs.status_is ∙ is)),

@@ -1,5 +1,5 @@
 -- A survey that is read from a desk, and a file that is written to one.
-use Rattle.std.specs.Prelude.{◌≡◌, ℕ, ◌+◌, ◌<◌, ◌≤◌, ◌⊎◌, Bool, IsTrue, List, length, take, Option, Some, IsSome, IfSome, Result, IfOk, OnOk, OnErr, IsErrOf}
+use Rattle.std.specs.Prelude.{◌≡◌, ℕ, ◌+◌, ◌<◌, ◌≤◌, ◌⊎◌, Bool, IsTrue, List, length, take, Some, IsSome, IfSome, Result, IfOk, OnOk, IsErrOf}
 use Rattle.las_survey.specs.Fault.{fault_of}
 use Rattle.las_survey.specs.declared.fault.SurveyFault.{SurveyFault}
 use Rattle.las_survey.specs.declared.loading.TheConstants.{LIMIT}

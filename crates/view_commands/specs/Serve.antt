@@ -14,6 +14,7 @@ use Rattle.sessions.specs.Session as session
 use Rattle.sessions.specs.Session.{Served}
 use Rattle.view_commands.specs.Desk.{Said}
 use Rattle.view_commands.specs.Files.{TakenToTheEnd, HoldsFront}
+use Rattle.view_commands.specs.Told.{IsNothing}
 use Rattle.view_commands.specs.Journal.{journal_text, KeptSo, WrittenSo}
 use Rattle.view_commands.specs.declared.serving.Closed.{Closed}
 use Rattle.view_commands.specs.declared.status.Status as status
@@ -122,10 +123,11 @@ pub record NoneRose (old new : Said) (survey journal input output : List ℕ) : 
 
 -- a refusal before the session: its cause, and what stands then
 pub record Refuses (tells : Bool) (old new : Said) (survey journal input output : List ℕ) (ended : told.Ended) : Type 0 where
-  pub history : ended.told.history.items ≡ []
-  pub journal_reason : ended.told.journal ≡ why.Finished
+  pub nothing : IsNothing ended.told
   pub cause : Cause old new survey journal input output ended.status
   pub emptied : MayEmpty tells old new journal output
+  -- nothing was taken of the input
+  pub untaken : new.taken input ≤ old.taken input
   -- and how it ends where nothing outside failed
   pub unserved : IsTrue tells → (b : List ℕ) → old.file survey ≡ Some b → (Rose (old.reads survey) (new.reads survey) → ⊥) → EndsUnserved b ended.status
   pub settled : IsTrue tells → (b : List ℕ) → old.file survey ≡ Some b → length b ≤ LIMIT → IsLaid b
@@ -154,7 +156,7 @@ EndCause old new input output why.Memory = Unit {0}
 
 -- a session over a survey with these bytes, whose input has those that are left: its history, what its output
 -- and the journal hold, and the status that follows
-pub record Runs (tells : Bool) (old new : Said) (journal_name input output b : List ℕ) (left : Option (List ℕ)) (end : SessionEnd) (ended : told.Ended) : Type 0 where
+pub record RunsSession (tells : Bool) (old new : Said) (journal_name input output b : List ℕ) (left : Option (List ℕ)) (end : SessionEnd) (ended : told.Ended) : Type 0 where
   pub start : Option (List ℕ)
   pub got : Option (List ℕ)
   pub empty : IsTrue tells → start ≡ Some []
@@ -180,9 +182,9 @@ pub record Runs (tells : Bool) (old new : Said) (journal_name input output b : L
 -- a `serve` whose ends are open: one session, or want of memory before it
 abbrev pub RunsOpened : Bool → Said → Said → List ℕ → List ℕ → List ℕ → List ℕ → Option (List ℕ) → told.Ended → List SessionEnd → Type 0
 RunsOpened tells old new journal input output b left ended [] =
-    (ended.status ≡ Memory) × (ended.told.history.items ≡ []) × (ended.told.journal ≡ why.Finished) × AllStay old.file new.file
+    (ended.status ≡ Memory) × IsNothing ended.told × AllStay old.file new.file × (new.taken input ≤ old.taken input)
 RunsOpened tells old new journal input output b left ended (end ∷ []) =
-    OthersStay old.taken new.taken input × Runs tells old new journal input output b left end ended
+    OthersStay old.taken new.taken input × RunsSession tells old new journal input output b left end ended
 RunsOpened tells old new journal input output b left ended _ = ⊥
 
 -- a session over the survey of one name, from one name into another, and the journal in a third
@@ -192,23 +194,27 @@ pub record Serves (tells : Bool) (old new : Said) (survey journal input output :
   pub there : IsTrue tells → IsSome (old.file survey)
   pub laid : IsLaid b
   pub input_there : IsTrue tells → IsSome (old.file input)
-  pub runs : Runs tells old new journal input output b (old.file input) end ended
+  pub runs : RunsSession tells old new journal input output b (old.file input) end ended
   -- a session is too long exactly where one byte too many came
   pub limit : (ended.status ≡ SessionLimit 4) ↔ (end.taken ≡ session.LIMIT + 1)
   -- and how it ends where nothing outside failed
   pub settled : IsTrue tells → (i : List ℕ) → old.file input ≡ Some i → length i ≤ session.LIMIT → NoneRose old new survey journal input output
       → ((ended.status ≡ Done) × (end.reason ≡ why.Finished) × (end.taken ≡ length i)) ⊎ (ended.status ≡ Memory)
 
--- a `serve` with one pair: a refusal before the session, or the session
-abbrev pub ServesOne : Bool → Said → Said → List ℕ → List ℕ → List ℕ → List ℕ → told.Ended → List SessionEnd → Type 0
-ServesOne tells old new survey journal input output ended [] = Refuses tells old new survey journal input output ended
-ServesOne tells old new survey journal input output ended (end ∷ []) = Serves tells old new survey journal input output ended end
-ServesOne tells old new survey journal input output ended _ = ⊥
-
--- the same of a survey that was just read and has these bytes
+-- the ends of a `serve` of a survey that was just read and has these bytes
 abbrev pub ServesSurvey : Bool → Said → Said → List ℕ → List ℕ → List ℕ → List ℕ → told.Ended → List SessionEnd → Type 0
 ServesSurvey tells old new journal input output b ended [] =
-    (ended.told.history.items ≡ []) × (ended.told.journal ≡ why.Finished) × EndsCause old new journal input output ended.status × MayEmpty tells old new journal output
+    IsNothing ended.told × EndsCause old new journal input output ended.status × MayEmpty tells old new journal output × (new.taken input ≤ old.taken input)
 ServesSurvey tells old new journal input output b ended (end ∷ []) =
-    (IsTrue tells → IsSome (old.file input)) × OthersStay old.taken new.taken input × Runs tells old new journal input output b (old.file input) end ended
+    (IsTrue tells → IsSome (old.file input)) × OthersStay old.taken new.taken input × RunsSession tells old new journal input output b (old.file input) end ended
 ServesSurvey tells old new journal input output b ended _ = ⊥
+
+-- a `serve` with one pair that tells of these ends: none and a refusal, or one of its session
+abbrev pub ServesEnds : Bool → Said → Said → List ℕ → List ℕ → List ℕ → List ℕ → told.Ended → List SessionEnd → Type 0
+ServesEnds tells old new survey journal input output ended [] = Refuses tells old new survey journal input output ended
+ServesEnds tells old new survey journal input output ended (end ∷ []) = Serves tells old new survey journal input output ended end
+ServesEnds tells old new survey journal input output ended _ = ⊥
+
+-- a `serve` with one pair: a refusal before the session, or the session
+abbrev pub ServesOne : Bool → Said → Said → List ℕ → List ℕ → List ℕ → List ℕ → told.Ended → Type 0
+ServesOne tells old new survey journal input output ended = ServesEnds tells old new survey journal input output ended ended.told.sessions.items

@@ -2,12 +2,16 @@
 //! written, and the status that each ends with.
 #![tactic(auto)]
 
+mod drawing;
 mod files;
 mod journal;
 mod opening;
+mod running;
 mod serving;
 mod status;
 mod told;
 
+pub use drawing::draw;
+pub use running::run;
 pub use status::{Status, code};
 pub use told::{Ended, Told};

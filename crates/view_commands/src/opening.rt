@@ -1,4 +1,4 @@
-ghost use Rattle.std.specs.Prelude.{◌≡◌, ◌≢◌, IsTrue, IfOk, IfErr, OnOk};
+ghost use Rattle.std.specs.Prelude.{◌≡◌, ◌≢◌, ◌≤◌, IsTrue, IfOk, IfErr, OnOk, OnErr};
 ghost use Rattle.view_ends.specs.Ends.{AllStay, NoneForgotten};
 ghost use Rattle.view_commands.specs.Serve.{MayEmpty, OnlyOpens, AreFresh, OpensEnds, EndsCause, WrittenCause};
 
@@ -49,6 +49,7 @@ pub(crate) fn open_ends<D: Desk>(
     ensures input_known { OnOk result (D.known desk.new names.entry.input.now) }
     ensures output_known { OnOk result (D.known desk.new names.entry.output.now) }
     ensures journal_known { OnOk result (D.known desk.new names.entry.journal.now) }
+    ensures untaken { OnErr result (D.taken desk.new names.entry.input.now ≤ D.taken desk.old names.entry.input.now) }
     ensures cause { IfErr result (λ status. EndsCause (record { file = D.file desk.old; reads = D.read_faults desk.old; writes = D.write_faults desk.old; taken = D.taken desk.old; unkept = D.unkept desk.old }) (record { file = D.file desk.new; reads = D.read_faults desk.new; writes = D.write_faults desk.new; taken = D.taken desk.new; unkept = D.unkept desk.new }) names.entry.journal.now names.entry.input.now names.entry.output.now status) }
     ensures files { MayEmpty D.tells (record { file = D.file desk.old; reads = D.read_faults desk.old; writes = D.write_faults desk.old; taken = D.taken desk.old; unkept = D.unkept desk.old }) (record { file = D.file desk.new; reads = D.read_faults desk.new; writes = D.write_faults desk.new; taken = D.taken desk.new; unkept = D.unkept desk.new }) names.entry.journal.now names.entry.output.now }
 {

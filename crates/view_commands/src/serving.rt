@@ -1,7 +1,6 @@
 ghost use Rattle.std.specs.Arc.{arc_value};
 ghost use Rattle.std.specs.Prelude.{◌≡◌, ◌≢◌, ◌≤◌, [], Some, IsTrue, length};
 ghost use Rattle.sessions.specs.Histories.{journal};
-ghost use Rattle.sessions.specs.declared.end.Reason.TheVariants.{Finished};
 ghost use Rattle.view_commands.specs.Journal.{journal_text};
 ghost use Rattle.view_commands.specs.Serve as serve;
 ghost use Rattle.view_commands.specs.Serve.{AreFresh, Closes, RunsOpened, ServesSurvey, ServesOne};
@@ -34,7 +33,7 @@ pub(crate) fn serve<D: Desk, B: Beside>(
 ) -> Ended
     requires line { IsLine Row.Serve (texts words.now) }
     requires one { length words.now ≡ 6 }
-    ensures { ServesOne D.tells (record { file = D.file desk.old; reads = D.read_faults desk.old; writes = D.write_faults desk.old; taken = D.taken desk.old; unkept = D.unkept desk.old }) (record { file = D.file desk.new; reads = D.read_faults desk.new; writes = D.write_faults desk.new; taken = D.taken desk.new; unkept = D.unkept desk.new }) (word_at (texts words.now) 1) (word_at (texts words.now) 3) (word_at (texts words.now) 4) (word_at (texts words.now) 5) result result.told.sessions.items }
+    ensures { ServesOne D.tells (record { file = D.file desk.old; reads = D.read_faults desk.old; writes = D.write_faults desk.old; taken = D.taken desk.old; unkept = D.unkept desk.old }) (record { file = D.file desk.new; reads = D.read_faults desk.new; writes = D.write_faults desk.new; taken = D.taken desk.new; unkept = D.unkept desk.new }) (word_at (texts words.now) 1) (word_at (texts words.now) 3) (word_at (texts words.now) 4) (word_at (texts words.now) 5) result }
 {
     let names = names_of(words);
     serve_names(alloc, names, workers(Row::Serve, words), desk, beside)
@@ -70,32 +69,15 @@ fn serve_names<D: Desk, B: Beside>(
     requires read { names.survey.now ≢ names.input.now }
     requires written { names.journal.now ≢ names.output.now }
     requires workers { (1 ≤ workers) × (workers ≤ 64) }
-    ensures { ServesOne D.tells (record { file = D.file desk.old; reads = D.read_faults desk.old; writes = D.write_faults desk.old; taken = D.taken desk.old; unkept = D.unkept desk.old }) (record { file = D.file desk.new; reads = D.read_faults desk.new; writes = D.write_faults desk.new; taken = D.taken desk.new; unkept = D.unkept desk.new }) names.entry.survey.now names.entry.journal.now names.entry.input.now names.entry.output.now result result.told.sessions.items }
+    ensures { ServesOne D.tells (record { file = D.file desk.old; reads = D.read_faults desk.old; writes = D.write_faults desk.old; taken = D.taken desk.old; unkept = D.unkept desk.old }) (record { file = D.file desk.new; reads = D.read_faults desk.new; writes = D.write_faults desk.new; taken = D.taken desk.new; unkept = D.unkept desk.new }) names.entry.survey.now names.entry.journal.now names.entry.input.now names.entry.output.now result }
 {
     match read_survey(alloc, desk, names.survey) {
         Ok(survey) => serve_survey(alloc, survey, names, workers, desk, beside),
-        Err(SurveyRefusal::Open) => refused(alloc, Status::OpenFault { at: SURVEY }),
-        Err(SurveyRefusal::Read) => refused(alloc, Status::ReadFault { at: SURVEY }),
-        Err(SurveyRefusal::TooLong) => refused(alloc, Status::TooLong),
-        Err(SurveyRefusal::Survey(fault)) => refused(alloc, Status::Survey(fault)),
-        Err(SurveyRefusal::Memory) => refused(alloc, Status::Memory),
-    }
-}
-
-/// A refusal before the session, which tells nothing.
-fn refused(alloc: Global, status: Status) -> Ended
-    ensures status { result.status ≡ status }
-    ensures history { result.told.history.items ≡ [] }
-    ensures sessions { result.told.sessions.items ≡ [] }
-    ensures journal { result.told.journal ≡ Finished }
-{
-    Ended {
-        status,
-        told: Told {
-            history: History::new(alloc),
-            sessions: Ends::new(alloc),
-            journal: Reason::Finished,
-        },
+        Err(SurveyRefusal::Open) => Ended::only(alloc, Status::OpenFault { at: SURVEY }),
+        Err(SurveyRefusal::Read) => Ended::only(alloc, Status::ReadFault { at: SURVEY }),
+        Err(SurveyRefusal::TooLong) => Ended::only(alloc, Status::TooLong),
+        Err(SurveyRefusal::Survey(fault)) => Ended::only(alloc, Status::Survey(fault)),
+        Err(SurveyRefusal::Memory) => Ended::only(alloc, Status::Memory),
     }
 }
 
@@ -113,12 +95,12 @@ fn serve_survey<D: Desk, B: Beside>(
     ensures { ServesSurvey D.tells (record { file = D.file desk.old; reads = D.read_faults desk.old; writes = D.write_faults desk.old; taken = D.taken desk.old; unkept = D.unkept desk.old }) (record { file = D.file desk.new; reads = D.read_faults desk.new; writes = D.write_faults desk.new; taken = D.taken desk.new; unkept = D.unkept desk.new }) names.entry.journal.now names.entry.input.now names.entry.output.now survey result result.told.sessions.items }
 {
     let Ok(survey) = Arc::new(alloc, survey) else {
-        return refused(alloc, Status::Memory);
+        return Ended::only(alloc, Status::Memory);
     };
     let scene = Scene { survey, workers };
     match open_ends(desk, names) {
         Ok(ends) => serve_opened(alloc, &scene, names, ends, desk, beside),
-        Err(status) => refused(alloc, status),
+        Err(status) => Ended::only(alloc, status),
     }
 }
 
@@ -147,7 +129,7 @@ fn serve_opened<D: Desk, B: Beside>(
     let mut sessions = Ends::new(alloc);
     if sessions.reserve(1).is_err() {
         desk.shut(names.input, input);
-        return refused(alloc, Status::Memory);
+        return Ended::only(alloc, Status::Memory);
     }
     let mut history = History::new(alloc);
     let end = serve_alone(

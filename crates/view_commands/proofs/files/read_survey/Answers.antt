@@ -1,4 +1,4 @@
-use Rattle.std.proofs.Common.{◌≡◌, rules, ap, subst, refl, ℕ, Some, Err}
+use Rattle.std.proofs.Common.{◌≡◌, rules, ap, subst, ℕ, Some, Err}
 use Rattle.las_survey.specs.declared.fault.SurveyFault.{SurveyFault}
 use Rattle.las_survey.specs.declared.loading.LoadFault.{LoadFault}
 use Rattle.las_survey.specs.Fault.{fault_of}
