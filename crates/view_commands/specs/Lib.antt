@@ -2,5 +2,7 @@ pub mod Desk
 pub mod Files
 pub mod Status
 pub mod Told
+pub mod Journal
+pub mod Serve
 pub mod Draw
 pub mod Run

@@ -4,7 +4,10 @@
 
 mod drawing;
 mod files;
+mod journal;
+mod opening;
 mod running;
+mod serving;
 mod status;
 mod told;
 
