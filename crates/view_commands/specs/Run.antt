@@ -5,6 +5,7 @@ use Rattle.view_words.specs.declared.row.Row as row
 use Rattle.view_words.specs.declared.row.Row.TheVariants.{Draw, Info, Trial, Serve}
 use Rattle.view_commands.specs.Desk.{Said, Untouched}
 use Rattle.view_commands.specs.Draw.{AnswersLine}
+use Rattle.view_commands.specs.Info.{Informs}
 use Rattle.view_commands.specs.Told.{IsNothing}
 use Rattle.view_commands.specs.declared.status.Status as status
 use Rattle.view_commands.specs.declared.status.Status.TheVariants.{Words, NotYet}
@@ -21,10 +22,15 @@ pub record RunsDraw (tells : Bool) (old new : Said) (ws : List (List ℕ)) (ende
   pub answers : AnswersLine tells old new ws ended.status
   pub told : IsNothing ended.told
 
+-- an `info` whose words fit, which tells nothing beside its status
+pub record RunsInfo (tells : Bool) (old new : Said) (ws : List (List ℕ)) (ended : Ended) : Type 0 where
+  pub answers : Informs tells old new ws ended.status
+  pub told : IsNothing ended.told
+
 -- the command of a row whose words fit
 abbrev pub RunsLine : row.Row → Bool → Said → Said → List (List ℕ) → Ended → Type 0
 RunsLine Draw tells old new ws ended = RunsDraw tells old new ws ended
-RunsLine Info tells old new ws ended = EndsAtOnce old new NotYet ended
+RunsLine Info tells old new ws ended = RunsInfo tells old new ws ended
 RunsLine Trial tells old new ws ended = EndsAtOnce old new NotYet ended
 RunsLine Serve tells old new ws ended = EndsAtOnce old new NotYet ended
 

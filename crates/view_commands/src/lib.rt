@@ -4,11 +4,14 @@
 
 mod drawing;
 mod files;
+mod informing;
+mod made;
 mod running;
 mod status;
 mod told;
 
 pub use drawing::draw;
+pub use informing::info;
 pub use running::run;
 pub use status::{Status, code};
 pub use told::{Ended, Told};

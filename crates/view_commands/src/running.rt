@@ -3,6 +3,7 @@ ghost use Rattle.view_commands.specs.Run.{Runs, RunsLine};
 ghost use Rattle.view_words.specs.CommandLine.{IsLine, least_words, texts};
 
 use crate::drawing::draw_line;
+use crate::informing::info_line;
 use crate::status::Status;
 use crate::told::{Ended, Told};
 use std::alloc::Global;
@@ -33,7 +34,7 @@ fn run_line<D: Desk, B: Beside>(
 {
     match row {
         Row::Draw => Ended::only(alloc, draw_line(alloc, words, desk, beside)),
-        Row::Info => Ended::only(alloc, Status::NotYet),
+        Row::Info => Ended::only(alloc, info_line(alloc, words, desk)),
         Row::Trial => Ended::only(alloc, Status::NotYet),
         Row::Serve => Ended::only(alloc, Status::NotYet),
     }
