@@ -4,5 +4,7 @@ pub mod Status
 pub mod Told
 pub mod Journal
 pub mod Serve
+pub mod Made
 pub mod Draw
+pub mod Info
 pub mod Run

@@ -6,6 +6,7 @@ use Rattle.view_words.specs.declared.row.Row.TheVariants.{Draw, Info, Trial, Ser
 use Rattle.view_commands.specs.Desk.{Said, Untouched}
 use Rattle.view_commands.specs.Draw.{AnswersLine}
 use Rattle.view_commands.specs.Serve.{ServesOne}
+use Rattle.view_commands.specs.Info.{Informs}
 use Rattle.view_commands.specs.Told.{IsNothing}
 use Rattle.view_text.specs.ViewWords.{word_at}
 use Rattle.view_commands.specs.declared.status.Status as status
@@ -28,10 +29,15 @@ pub record RunsServe (tells : Bool) (old new : Said) (ws : List (List ℕ)) (end
   pub one : length ws ≡ 6 → ServesOne tells old new (word_at ws 1) (word_at ws 3) (word_at ws 4) (word_at ws 5) ended
   pub more : (length ws ≡ 6 → ⊥) → EndsAtOnce old new NotYet ended
 
+-- an `info` whose words fit, which tells nothing beside its status
+pub record RunsInfo (tells : Bool) (old new : Said) (ws : List (List ℕ)) (ended : Ended) : Type 0 where
+  pub answers : Informs tells old new ws ended.status
+  pub told : IsNothing ended.told
+
 -- the command of a row whose words fit
 abbrev pub RunsLine : row.Row → Bool → Said → Said → List (List ℕ) → Ended → Type 0
 RunsLine Draw tells old new ws ended = RunsDraw tells old new ws ended
-RunsLine Info tells old new ws ended = EndsAtOnce old new NotYet ended
+RunsLine Info tells old new ws ended = RunsInfo tells old new ws ended
 RunsLine Trial tells old new ws ended = EndsAtOnce old new NotYet ended
 RunsLine Serve tells old new ws ended = RunsServe tells old new ws ended
 

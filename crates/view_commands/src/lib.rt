@@ -6,12 +6,15 @@ mod drawing;
 mod files;
 mod journal;
 mod opening;
+mod informing;
+mod made;
 mod running;
 mod serving;
 mod status;
 mod told;
 
 pub use drawing::draw;
+pub use informing::info;
 pub use running::run;
 pub use status::{Status, code};
 pub use told::{Ended, Told};

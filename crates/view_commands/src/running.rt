@@ -4,6 +4,7 @@ ghost use Rattle.view_words.specs.CommandLine.{IsLine, least_words, texts};
 
 use crate::drawing::draw_line;
 use crate::serving::serve;
+use crate::informing::info_line;
 use crate::status::Status;
 use crate::told::{Ended, Told};
 use std::alloc::Global;
@@ -34,7 +35,7 @@ fn run_line<D: Desk, B: Beside>(
 {
     match row {
         Row::Draw => Ended::only(alloc, draw_line(alloc, words, desk, beside)),
-        Row::Info => Ended::only(alloc, Status::NotYet),
+        Row::Info => Ended::only(alloc, info_line(alloc, words, desk)),
         Row::Trial => Ended::only(alloc, Status::NotYet),
         Row::Serve => serve_line(alloc, words, desk, beside),
     }
