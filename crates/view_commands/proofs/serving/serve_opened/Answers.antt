@@ -20,15 +20,15 @@ returns g c =
     let read : c.serve_alone-end.result.reason ≡ ReadFault → Rose (old.reads input) (new.reads input) = search rules in
     let wrote : c.serve_alone-end.result.reason ≡ WriteFault → Rose (old.writes output) (new.writes output) = search rules in
     let one : c.push.new.self.items ≡ c.serve_alone-end.result ∷ [] = search rules in
-    one_ran g.D.Desk.tells old new c.args.names.journal.now input output (arc_value c.args.scene.now.survey) (g.D.In.Source.left c.args.ends.input) c.serve_alone-end.result record { status = c.status_of-status.result; told = record { history = c.serve_alone-end.new._history; sessions = c.push.new.self; journal = c.close_ends-closed.result.journal } } c.push.new.self.items one closed.taken_others record {
+    one_ran g.D.Desk.tells old new c.args.names.journal.now input output (arc_value c.args.scene.now.survey) (g.D.In.Source.left c.args.ends.input) c.serve_alone-end.result record { status = c.status_of-status.result; told = record { history = c.serve_alone-end.new.history; sessions = c.push.new.self; journal = c.close_ends-closed.result.journal } } c.push.new.self.items one closed.taken_others record {
       start = g.D.Out.Sink.got c.args.ends.output;
-      got = g.D.Out.Sink.got c.serve_alone-end.new._sink;
+      got = g.D.Out.Sink.got c.serve_alone-end.new.sink;
       empty = c.requires.fresh.output_empty;
       served = session.served;
       legal = session.legal;
       mine = session.mine;
       given_back = session.given_back;
-      newest_held = λ callers. held_current callers c.serve_alone-end.new._history.items session.given_back;
+      newest_held = λ callers. held_current callers c.serve_alone-end.new.history.items session.given_back;
       taken_more = taken;
       cause = end_cause old new input output c.serve_alone-end.result.reason read wrote;
       kept = c.close_ends-closed.result.kept;
