@@ -1,7 +1,6 @@
 -- Counts that rose, over an earlier state or a later one.
-use Rattle.std.proofs.Common.{◌≡◌, ℕ, ◌+◌, ◌-◌, ◌<◌, ◌≤◌, List, refl, ◌∙◌, arith}
+use Rattle.std.proofs.Common.{◌≡◌, ℕ, ◌<◌, ◌≤◌, List, refl, ◌∙◌, arith}
 use Rattle.std.proofs.lemmas.Bool.Decides.{nat_tests}
-use Rattle.std.specs.Prelude.{◌^◌, min}
 use Rattle.view_ends.specs.Ends.{Rose}
 use Rattle.view_commands.specs.Desk.{Said}
 use Rattle.view_commands.specs.Journal.{KeptSo, WrittenSo}

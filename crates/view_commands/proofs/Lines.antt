@@ -1,6 +1,5 @@
 -- The names of a `serve` with one pair.
-use Rattle.std.proofs.Common.{◌≡◌, ◌≢◌, ℕ, ◌<◌, ◌∙◌, List, length, sym, arith}
-use Rattle.std.specs.Prelude.{String}
+use Rattle.std.proofs.Common.{◌≡◌, ◌≢◌, ℕ, List, length, arith}
 use Rattle.view_text.specs.ViewWords.{word_at}
 use Rattle.view_words.specs.CommandLine.{IsLine}
 use Rattle.view_words.specs.declared.row.Row.TheVariants.{Serve}

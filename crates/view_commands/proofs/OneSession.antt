@@ -1,17 +1,16 @@
 -- A `serve` with one session, put together of its steps.
 use Rattle.std.proofs.Common.{◌≡◌, ◌≢◌, ℕ, ◌<◌, ◌≤◌, List, [], ◌∷◌, Option, Some, None, Bool, length, refl, sym, ◌∙◌, ap, subst, arith, inl, inr}
-use Rattle.std.specs.Prelude.{◌⊎◌, IsTrue, IsSome, IfSome}
+use Rattle.std.specs.Prelude.{IsTrue, IsSome, IfSome}
 use Rattle.las_survey.specs.Fault.{fault_of}
 use Rattle.las_survey.specs.declared.fault.SurveyFault.{SurveyFault}
 use Rattle.las_survey.specs.declared.loading.TheConstants as load
 use Rattle.view_ends.specs.Ends.{Rose, RoseBy, AllStay, OthersStay, NoneFalls}
 use Rattle.view_meaning.specs.Layout.{IsLaid, fault}
 use Rattle.sessions.specs.declared.end.SessionEnd.{SessionEnd}
-use Rattle.sessions.specs.declared.end.Reason.TheVariants as why
 use Rattle.view_commands.specs.Desk.{Said}
 use Rattle.view_commands.specs.Files.{TakenToTheEnd}
 use Rattle.view_commands.specs.Told.{IsNothing}
-use Rattle.view_commands.specs.Serve.{RunsSession, RunsOpened, OpensEnds, ServesSurvey, ServesEnds, Serves, Refuses, MayEmpty, IsAsWasOrEmpty, EndsCause, Cause, NoneRose}
+use Rattle.view_commands.specs.Serve.{RunsSession, RunsOpened, OpensEnds, ServesSurvey, ServesEnds, Refuses, IsAsWasOrEmpty, EndsCause, Cause, NoneRose}
 use Rattle.view_commands.specs.declared.status.Status as status
 use Rattle.view_commands.specs.declared.status.Status.TheVariants.{Done, Words, Limit, OpenFault, ReadFault, TooLong, Survey, WriteFault, SessionLimit, Memory, NotYet}
 use Rattle.view_commands.specs.declared.told.Ended as told

@@ -1,9 +1,9 @@
 -- A session's run: seen from an earlier state, and how its status comes.
-use Rattle.std.proofs.Common.{◌≡◌, ℕ, ◌+◌, ◌-◌, ◌<◌, ◌≤◌, List, [], ◌∷◌, Option, Some, None, Bool, length, take, refl, sym, ◌∙◌, ap, subst, arith, inl, inr}
+use Rattle.std.proofs.Common.{◌≡◌, ℕ, ◌+◌, ◌≤◌, List, Option, Some, None, Bool, length, take, refl, sym, ◌∙◌, ap, subst, arith, inl, inr}
 use Rattle.std.proofs.lemmas.List.{length-take}
 use Rattle.std.proofs.lemmas.Bool.Decides.{nat_tests}
-use Rattle.std.specs.Prelude.{◌^◌, ◌⊎◌, ◌↔◌, min, IsTrue, IfSome}
-use Rattle.view_ends.specs.Ends.{Rose, RoseBy, AllStay, NoneFalls}
+use Rattle.std.specs.Prelude.{◌⊎◌, ◌↔◌, min, IfSome}
+use Rattle.view_ends.specs.Ends.{RoseBy, AllStay, NoneFalls}
 use Rattle.sessions.specs.declared.end.SessionEnd.{SessionEnd}
 use Rattle.sessions.specs.declared.end.Reason as reason
 use Rattle.sessions.specs.declared.end.Reason.TheVariants.{Finished, ReadFault, SessionLimit, WriteFault, Memory}

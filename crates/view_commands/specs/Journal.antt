@@ -1,5 +1,5 @@
 -- The journal of a run: what its file holds, and how its writing went.
-use Rattle.std.specs.Prelude.{◌≡◌, ◌≢◌, ℕ, ◌≤◌, Bool, IsTrue, List, [], ◌∷◌, ◌++◌, take, Option, Some, IfSome, OnOk, OnErr, IsErrOf, Result}
+use Rattle.std.specs.Prelude.{◌≡◌, ℕ, ◌≤◌, Bool, IsTrue, List, [], ◌∷◌, ◌++◌, take, Option, Some, IfSome, OnOk, OnErr, IsErrOf, Result}
 use Rattle.std.specs.List.{flat_map}
 use Rattle.edit_ops.specs.Canonical.{canonical}
 use Rattle.view_ends.specs.Ends.{Rose, AllStay, OthersStay, NoneFalls, Gains}

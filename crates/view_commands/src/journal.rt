@@ -43,11 +43,7 @@ pub(crate) fn reason_of(outcome: Result<(), EndFault>) -> Reason
 }
 
 /// Gives the journal of a history to an output.
-fn give_journal<S: Sink>(
-    alloc: Global,
-    sink: &mut S,
-    history: &[Entry],
-) -> Result<(), EndFault>
+fn give_journal<S: Sink>(alloc: Global, sink: &mut S, history: &[Entry]) -> Result<(), EndFault>
     ensures { Gives (S.got sink.old) (S.got sink.new) (S.faults sink.old) (S.faults sink.new) (journal_text (journal history.now)) result }
 {
     let text = journal_text(alloc, history)?;

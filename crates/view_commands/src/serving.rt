@@ -132,14 +132,7 @@ fn serve_opened<D: Desk, B: Beside>(
         return Ended::only(alloc, Status::Memory);
     }
     let mut history = History::new(alloc);
-    let end = serve_alone(
-        alloc,
-        scene,
-        &mut history,
-        &mut input,
-        &mut output,
-        beside,
-    );
+    let end = serve_alone(alloc, scene, &mut history, &mut input, &mut output, beside);
     let ends = Opened {
         input,
         output,

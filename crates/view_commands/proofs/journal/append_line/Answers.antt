@@ -1,4 +1,4 @@
-use Rattle.std.proofs.Common.{◌≡◌, ◌++◌, List, ℕ, subst, ap}
+use Rattle.std.proofs.Common.{◌≡◌, List, ℕ, subst}
 use Rattle.std.specs.Result.{OnOk}
 use Rattle.view_commands.proofs.JournalText.{line_appended}
 use Rattle.view_commands.proofs.journal.append_line.Goals as goal

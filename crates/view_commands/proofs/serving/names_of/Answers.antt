@@ -1,6 +1,6 @@
-use Rattle.std.proofs.Common.{◌∙◌, sym, subst}
+use Rattle.std.proofs.Common.{◌∙◌, sym}
 use Rattle.std.proofs.lemmas.List.{length-map}
-use Rattle.std.specs.Prelude.{◌≢◌, string_bytes, List, ℕ}
+use Rattle.std.specs.Prelude.{string_bytes}
 use Rattle.view_words.specs.CommandLine.{texts}
 use Rattle.view_commands.proofs.Lines.{survey_and_input, journal_and_output}
 use Rattle.view_commands.proofs.serving.names_of.Goals as goal

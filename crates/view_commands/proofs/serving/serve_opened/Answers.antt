@@ -1,10 +1,10 @@
-use Rattle.std.proofs.Common.{rules, ◌≡◌, ◌∙◌, ◌+◌, ◌∷◌, [], ℕ, List, Some, Bool, IsTrue, sym, ap, subst}
+use Rattle.std.proofs.Common.{rules, ◌≡◌, ◌∷◌, []}
 use Rattle.std.specs.Arc.{arc_value}
 use Rattle.view_ends.specs.Ends.{Rose, RoseBy}
 use Rattle.sessions.specs.declared.end.Reason.TheVariants.{ReadFault, WriteFault}
 use Rattle.sessions.proofs.Histories.{held_current}
 use Rattle.view_commands.specs.Desk.{Said}
-use Rattle.view_commands.proofs.Counts.{rose_from_none, end_cause, kept_finished}
+use Rattle.view_commands.proofs.Counts.{end_cause, kept_finished}
 use Rattle.view_commands.proofs.OneSession.{one_ran}
 use Rattle.view_commands.proofs.serving.serve_opened.Goals as goal
 

@@ -12,5 +12,5 @@ returns-in-Ok-open_ends g c =
     let new : Said = record { file = g.D.Desk.file c.serve_opened.new.desk; reads = g.D.Desk.read_faults c.serve_opened.new.desk; writes = g.D.Desk.write_faults c.serve_opened.new.desk; taken = g.D.Desk.taken c.serve_opened.new.desk; unkept = g.D.Desk.unkept c.serve_opened.new.desk } in
     let bytes : arc_value c.in-Ok.survey ≡ c.args.survey = search rules in
     subst (λ (b : List ℕ). ServesSurvey g.D.Desk.tells old new c.args.names.journal.now c.args.names.input.now c.args.names.output.now b c.serve_opened.result c.serve_opened.result.told.sessions.items) bytes
-        (survey_served g.D.Desk.tells old mid new c.args.names.journal.now c.args.names.input.now c.args.names.output.now (arc_value c.in-Ok.survey) (g.D.In.Source.left c.in-Ok-open_ends.ends.input)
-        c.serve_opened.result c.serve_opened.result.told.sessions.items c.in-Ok-open_ends.ensures.opened c.serve_opened.ensures)
+    (survey_served g.D.Desk.tells old mid new c.args.names.journal.now c.args.names.input.now c.args.names.output.now (arc_value c.in-Ok.survey) (g.D.In.Source.left c.in-Ok-open_ends.ends.input)
+    c.serve_opened.result c.serve_opened.result.told.sessions.items c.in-Ok-open_ends.ensures.opened c.serve_opened.ensures)
