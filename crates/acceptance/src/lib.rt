@@ -3,6 +3,10 @@
 #![tactic(auto)]
 
 #[cfg(test)]
+mod breaking;
+#[cfg(test)]
+mod dialogue;
+#[cfg(test)]
 mod drawing;
 #[cfg(test)]
 mod dripping;
@@ -12,3 +16,5 @@ mod failing;
 mod plain;
 #[cfg(test)]
 mod refusals;
+#[cfg(test)]
+mod serving;
