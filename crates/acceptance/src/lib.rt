@@ -9,6 +9,10 @@ mod dripping;
 #[cfg(test)]
 mod failing;
 #[cfg(test)]
+mod parts;
+#[cfg(test)]
 mod plain;
 #[cfg(test)]
 mod refusals;
+#[cfg(test)]
+mod telling;
