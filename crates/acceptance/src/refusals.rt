@@ -69,7 +69,10 @@ fn each_refusal_of_words_names_what_is_wrong(rt: HostRuntime) -> Result<(), Fail
         ),
         (
             "draw short.las a.ppm 1 ortho 1 1 0 0 0 1 0 0 0 1 0 0 0 1 1 1 0 10 class all show",
-            Status::Survey(SurveyFault::Points { need: 395, have: 394 }),
+            Status::Survey(SurveyFault::Points {
+                need: 395,
+                have: 394,
+            }),
             8,
         ),
         (
@@ -116,7 +119,10 @@ fn each_status_has_its_text(rt: HostRuntime) -> Result<(), Fail> {
         (Status::ReadFault { at: 1 }, "cannot read word 1"),
         (Status::TooLong, "survey is too long"),
         (
-            Status::Survey(SurveyFault::Points { need: 395, have: 394 }),
+            Status::Survey(SurveyFault::Points {
+                need: 395,
+                have: 394,
+            }),
             "survey: points need 395 bytes, file has 394",
         ),
         (Status::WriteFault { at: 2 }, "cannot write word 2"),

@@ -10,7 +10,12 @@ use view_ends::{MemDesk, NoBeside};
 fn told(alloc: Global, survey: Bytes) -> Result<(Status, Vec<u8>), Fail> {
     let mut desk = MemDesk::new(alloc);
     desk.put("a.las", survey)?;
-    let ended = run(alloc, &words(alloc, "info a.las a.txt")?, &mut desk, &NoBeside);
+    let ended = run(
+        alloc,
+        &words(alloc, "info a.las a.txt")?,
+        &mut desk,
+        &NoBeside,
+    );
     let text = desk.bytes_of("a.txt").unwrap_or(&[]);
     Ok((ended.status, text.to_vec(alloc)?))
 }
@@ -21,7 +26,8 @@ fn info_tells_each_part_of_a_file(rt: HostRuntime) -> Result<(), Fail> {
     assert_eq!(rt; survey.len(), 624);
     let (status, text) = told(rt.alloc(), survey)?;
     assert_eq!(rt; status, Status::Done);
-    let want = b"LAS 1.4\nheader 375\nformat 7\nlength 40\nrecords 3\nvlrs 1\nevlrs 1\nbytes 624\nbox 0 0 80 50 50 100\nclass 1 2\nclass 2 1\n";
+    let want =
+        b"LAS 1.4\nheader 375\nformat 7\nlength 40\nrecords 3\nvlrs 1\nevlrs 1\nbytes 624\nbox 0 0 80 50 50 100\nclass 1 2\nclass 2 1\n";
     assert_eq!(rt; text.as_slice(), want.as_slice());
     Ok(())
 }
