@@ -13,8 +13,12 @@ mod dripping;
 #[cfg(test)]
 mod failing;
 #[cfg(test)]
+mod parts;
+#[cfg(test)]
 mod plain;
 #[cfg(test)]
 mod refusals;
 #[cfg(test)]
 mod serving;
+#[cfg(test)]
+mod telling;

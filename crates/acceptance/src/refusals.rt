@@ -23,7 +23,8 @@ fn each_refusal_of_words_names_what_is_wrong(rt: HostRuntime) -> Result<(), Fail
         ("draw a.las a.las 65", Status::Words { at: 2 }, 2),
         ("paint a.las a.ppm", Status::Words { at: 0 }, 2),
         ("info a.las", Status::Words { at: 2 }, 2),
-        ("info a.las a.txt", Status::NotYet, 12),
+        ("info a.las a.las", Status::Words { at: 2 }, 2),
+        ("info b.las a.txt", Status::OpenFault { at: 1 }, 5),
         ("trial 5 100 2 t", Status::NotYet, 12),
         ("serve a.las 1 j i o", Status::NotYet, 12),
         (
