@@ -26,7 +26,7 @@ fn each_refusal_of_words_names_what_is_wrong(rt: HostRuntime) -> Result<(), Fail
         ("info a.las a.las", Status::Words { at: 2 }, 2),
         ("info b.las a.txt", Status::OpenFault { at: 1 }, 5),
         ("trial 5 100 2 t", Status::NotYet, 12),
-        ("serve a.las 1 j i o", Status::NotYet, 12),
+        ("serve a.las 1 j i o k p", Status::NotYet, 12),
         (
             "draw a.las a.las 1 ortho 1 1 0 0 0 1 0 0 0 1 0 0 0 1 1 1 0 10 class all show",
             Status::Words { at: 2 },
