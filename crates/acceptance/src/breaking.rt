@@ -13,6 +13,7 @@ const SCRIPT: &str = "edit 0 0 0 9 9 9 all 6\n\
 
 /// The bytes of the edit's line, and of its reply.
 const EDIT: usize = 23;
+
 const EDITED: usize = 11;
 
 /// Serves the script, with one call that is to fail.
@@ -25,7 +26,12 @@ fn broken(alloc: Global, name: &str, call: DeskCall, at: u64) -> Result<(Ended, 
         desk.put(name, bytes)?;
     }
     desk.fail(name, call, at)?;
-    let ended = run(alloc, &words(alloc, "serve a.las 1 j i o")?, &mut desk, &NoBeside);
+    let ended = run(
+        alloc,
+        &words(alloc, "serve a.las 1 j i o")?,
+        &mut desk,
+        &NoBeside,
+    );
     Ok((ended, desk))
 }
 
@@ -64,9 +70,19 @@ fn a_read_that_fails_ends_a_session_at_the_lines_before(rt: HostRuntime) -> Resu
         assert_eq!(rt; reason, Reason::ReadFault, "at {at}");
         assert_eq!(rt; taken, at as u64);
         let mut got = whole(rt.alloc())?;
-        got.truncate(if at < EDIT { 0 } else if at < SCRIPT.len() { EDITED } else { got.len() });
+        got.truncate(if at < EDIT {
+            0
+        } else if at < SCRIPT.len() {
+            EDITED
+        } else {
+            got.len()
+        });
         assert_eq!(rt; desk.bytes_of("o"), Some(got.as_slice()), "at {at}");
-        let journal = if at < EDIT { "" } else { "edit 0 0 0 9 9 9 all 6\n" };
+        let journal = if at < EDIT {
+            ""
+        } else {
+            "edit 0 0 0 9 9 9 all 6\n"
+        };
         assert_eq!(rt; desk.bytes_of("j"), Some(journal.as_bytes()), "at {at}");
     }
     Ok(())
@@ -81,7 +97,11 @@ fn a_write_that_fails_ends_a_session_at_that_byte(rt: HostRuntime) -> Result<(),
         let (reason, _, made_under) = ending(rt.alloc(), &ended)?;
         assert_eq!(rt; reason, Reason::WriteFault, "at {at}");
         assert_eq!(rt; desk.bytes_of("o"), Some(&all[..at]), "at {at}");
-        assert_eq!(rt; desk.bytes_of("j"), Some(b"edit 0 0 0 9 9 9 all 6\n".as_slice()), "at {at}");
+        assert_eq!(rt;
+            desk.bytes_of("j"),
+            Some(b"edit 0 0 0 9 9 9 all 6\n".as_slice()),
+            "at {at}"
+        );
         let made = kinds(rt.alloc(), &ended.told.history)?;
         let (marks, entries) = if at < EDITED {
             ([1].as_slice(), b"E".as_slice())
@@ -108,7 +128,11 @@ fn a_keeping_or_a_journal_that_fails_comes_after_the_session(rt: HostRuntime) ->
         let (reason, _, _) = ending(rt.alloc(), &ended)?;
         assert_eq!(rt; reason, Reason::Finished, "{name}");
         if name == "j" {
-            assert_eq!(rt; desk.bytes_of("o"), Some(whole(rt.alloc())?.as_slice()), "{name}");
+            assert_eq!(rt;
+                desk.bytes_of("o"),
+                Some(whole(rt.alloc())?.as_slice()),
+                "{name}"
+            );
         } else {
             let edit = b"edit 0 0 0 9 9 9 all 6\n".as_slice();
             assert_eq!(rt; desk.bytes_of("j"), Some(edit), "{name}");

@@ -72,10 +72,21 @@ fn a_line_is_answered_before_the_next_is_asked_for(rt: HostRuntime) -> Result<()
         workers: 1,
     };
     let heard = Cell::new(0);
-    let mut source = Asking { heard: &heard, at: 0, faults: 0 };
+    let mut source = Asking {
+        heard: &heard,
+        at: 0,
+        faults: 0,
+    };
     let mut sink = Hearing { heard: &heard };
     let mut history = History::new(rt.alloc());
-    let end = serve_alone(rt.alloc(), &scene, &mut history, &mut source, &mut sink, &NoBeside);
+    let end = serve_alone(
+        rt.alloc(),
+        &scene,
+        &mut history,
+        &mut source,
+        &mut sink,
+        &NoBeside,
+    );
     assert_eq!(rt; end.reason, Reason::Finished);
     assert_eq!(rt; end.marks.as_slice(), [1, 2].as_slice());
     assert_eq!(rt; history.len(), 2);

@@ -11,6 +11,7 @@ pub(crate) const VIEW: &str = "view ortho 1 1 0 0 0 1 0 0 0 1 0 0 0 1 1 1 0 10 c
 
 /// The picture of one pixel in class 2, and in class 6.
 pub(crate) const CLASS_2: &[u8] = b"P6\n1 1\n255\n\xC6\x86\xFA";
+
 pub(crate) const CLASS_6: &[u8] = b"P6\n1 1\n255\n\xD2\x92\x6E";
 
 /// How a session ends, what its output got, and the journal.
@@ -23,7 +24,12 @@ pub(crate) fn served(alloc: Global, survey: Bytes, script: &[u8]) -> Result<Serv
     let mut input = Bytes::new(alloc);
     input.append(script)?;
     desk.put("i", input)?;
-    let ended = run(alloc, &words(alloc, "serve a.las 1 j i o")?, &mut desk, &NoBeside);
+    let ended = run(
+        alloc,
+        &words(alloc, "serve a.las 1 j i o")?,
+        &mut desk,
+        &NoBeside,
+    );
     let replies = desk.bytes_of("o").unwrap_or(b"none").to_vec(alloc)?;
     let journal = desk.bytes_of("j").unwrap_or(b"none").to_vec(alloc)?;
     Ok((ended, replies, journal))
@@ -73,14 +79,20 @@ fn a_session_of_views_edits_and_a_save(rt: HostRuntime) -> Result<(), Fail> {
     )?;
     assert_eq!(rt; ended.status, Status::Done);
     assert_eq!(rt; replies.as_slice(), wanted.as_slice());
-    assert_eq!(rt; journal.as_slice(), joined(rt.alloc(), &[first, second])?.as_slice());
+    assert_eq!(rt;
+        journal.as_slice(),
+        joined(rt.alloc(), &[first, second])?.as_slice()
+    );
     assert_eq!(rt; ended.told.journal, Reason::Finished);
     assert_eq!(rt; ended.told.sessions.len(), 1);
     let (reason, taken, marks) = ending(rt.alloc(), &ended)?;
     assert_eq!(rt; reason, Reason::Finished);
     assert_eq!(rt; taken, script.len() as u64);
     assert_eq!(rt; marks.as_slice(), [0, 1, 1, 2, 2].as_slice());
-    assert_eq!(rt; kinds(rt.alloc(), &ended.told.history)?.as_slice(), b"PUEPUEPU".as_slice());
+    assert_eq!(rt;
+        kinds(rt.alloc(), &ended.told.history)?.as_slice(),
+        b"PUEPUEPU".as_slice()
+    );
     Ok(())
 }
 
@@ -106,13 +118,7 @@ fn letter(entry: &Entry, newest: u64) -> u8 {
     match entry.what {
         What::Publish(_) => b'E',
         What::Pin => b'P',
-        What::Unpin(version) => {
-            if version == newest {
-                b'U'
-            } else {
-                b'?'
-            }
-        }
+        What::Unpin(version) => { if version == newest { b'U' } else { b'?' } }
     }
 }
 
@@ -154,9 +160,27 @@ fn replies_and_journals_worked_by_hand(rt: HostRuntime) -> Result<(), Fail> {
             &lines,
             b"edit 0 0 0 9 9 9 all 6\n",
         ),
-        ("the second CR is a word", &ONE, b"save\r\r\n", b"REFUSED 1\n", b""),
-        ("a camera number out of range", &ONE, wide, b"REFUSED 2\n", b""),
-        ("a view that is not built", &ONE, hidden, b"REFUSED 1\n", b""),
+        (
+            "the second CR is a word",
+            &ONE,
+            b"save\r\r\n",
+            b"REFUSED 1\n",
+            b"",
+        ),
+        (
+            "a camera number out of range",
+            &ONE,
+            wide,
+            b"REFUSED 2\n",
+            b"",
+        ),
+        (
+            "a view that is not built",
+            &ONE,
+            hidden,
+            b"REFUSED 1\n",
+            b"",
+        ),
         (
             "lines that are none",
             &ONE,

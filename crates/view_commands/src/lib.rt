@@ -4,10 +4,10 @@
 
 mod drawing;
 mod files;
-mod journal;
-mod opening;
 mod informing;
+mod journal;
 mod made;
+mod opening;
 mod running;
 mod serving;
 mod status;

@@ -3,8 +3,8 @@ ghost use Rattle.view_commands.specs.Run.{Runs, RunsLine, RunsServe};
 ghost use Rattle.view_words.specs.CommandLine.{IsLine, least_words, texts};
 
 use crate::drawing::draw_line;
-use crate::serving::serve;
 use crate::informing::info_line;
+use crate::serving::serve;
 use crate::status::Status;
 use crate::told::{Ended, Told};
 use std::alloc::Global;
