@@ -114,29 +114,55 @@ fn a_write_that_fails_ends_a_session_at_that_byte(rt: HostRuntime) -> Result<(),
     Ok(())
 }
 
+/// How the session ends whose output isn't kept, or whose journal isn't written: the status, the
+/// journal's reason, and the bytes of the other file.
+fn late(
+    alloc: Global,
+    name: &str,
+    call: DeskCall,
+    at: u64,
+) -> Result<(Status, Reason, Vec<u8>), Fail> {
+    let (ended, desk) = broken(alloc, name, call, at)?;
+    let other = if name == "j" { "o" } else { "j" };
+    let bytes = desk.bytes_of(other).unwrap_or(b"none").to_vec(alloc)?;
+    Ok((ended.status, ended.told.journal, bytes))
+}
+
 #[test]
 fn a_keeping_or_a_journal_that_fails_comes_after_the_session(rt: HostRuntime) -> Result<(), Fail> {
-    for (name, call, at, place, journal) in [
-        ("o", DeskCall::Keep, 0, 5, Reason::Finished),
-        ("j", DeskCall::Keep, 0, 3, Reason::WriteFault),
-        ("j", DeskCall::Give, 0, 3, Reason::WriteFault),
-        ("j", DeskCall::Give, 5, 3, Reason::WriteFault),
+    let all = whole(rt.alloc())?;
+    let edit = b"edit 0 0 0 9 9 9 all 6\n".as_slice();
+    for (name, call, at, place, reason, want) in [
+        ("o", DeskCall::Keep, 0, 5, Reason::Finished, edit),
+        (
+            "j",
+            DeskCall::Keep,
+            0,
+            3,
+            Reason::WriteFault,
+            all.as_slice(),
+        ),
+        (
+            "j",
+            DeskCall::Give,
+            0,
+            3,
+            Reason::WriteFault,
+            all.as_slice(),
+        ),
+        (
+            "j",
+            DeskCall::Give,
+            5,
+            3,
+            Reason::WriteFault,
+            all.as_slice(),
+        ),
     ] {
-        let (ended, desk) = broken(rt.alloc(), name, call, at)?;
-        assert_eq!(rt; ended.status, Status::WriteFault { at: place }, "{name}");
-        assert_eq!(rt; ended.told.journal, journal, "{name}");
-        let (reason, _, _) = ending(rt.alloc(), &ended)?;
-        assert_eq!(rt; reason, Reason::Finished, "{name}");
-        if name == "j" {
-            assert_eq!(rt;
-                desk.bytes_of("o"),
-                Some(whole(rt.alloc())?.as_slice()),
-                "{name}"
-            );
-        } else {
-            let edit = b"edit 0 0 0 9 9 9 all 6\n".as_slice();
-            assert_eq!(rt; desk.bytes_of("j"), Some(edit), "{name}");
-        }
+        let (status, journal, other) = late(rt.alloc(), name, call, at)?;
+        assert_eq!(rt; status, Status::WriteFault { at: place }, "{name}");
+        assert_eq!(rt; journal, reason, "{name}");
+        assert_eq!(rt; other.as_slice(), want, "{name}");
     }
     Ok(())
 }

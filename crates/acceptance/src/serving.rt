@@ -1,3 +1,4 @@
+use crate::parts::parts;
 use crate::plain::{ONE, Record, plain, words};
 use sessions::{Entry, History, Reason, What};
 use std::alloc::Global;
@@ -239,5 +240,28 @@ fn a_journal_makes_the_same_edits_again(rt: HostRuntime) -> Result<(), Fail> {
     assert_eq!(rt; journal.as_slice(), canonical);
     assert_eq!(rt; same.as_slice(), replies.as_slice());
     assert_eq!(rt; journal_again.as_slice(), canonical);
+    Ok(())
+}
+
+#[test]
+fn a_file_with_all_parts_is_saved_with_other_classes_alone(rt: HostRuntime) -> Result<(), Fail> {
+    let script =
+        b"edit 0 0 0 100 100 95 1 2\nedit 0 0 0 100 100 200 1,2 6\nedit 50 50 80 50 50 80 6 9\nsave\n";
+    let (ended, replies, journal) = served(rt.alloc(), parts(rt.alloc())?, script)?;
+    let mut file = parts(rt.alloc())?.into_vec();
+    for (place, class) in [(453, 6), (493, 6), (533, 9)] {
+        if let Some(byte) = file.get_mut(place) {
+            *byte = class;
+        }
+    }
+    let heads = b"EDITED 1 1\nEDITED 2 3\nEDITED 3 1\nFILE 3 624\n".as_slice();
+    assert_eq!(rt; ended.status, Status::Done);
+    assert_eq!(rt;
+        replies.as_slice(),
+        joined(rt.alloc(), &[heads, &file])?.as_slice()
+    );
+    let edits =
+        "edit 0 0 0 100 100 95 1 2\nedit 0 0 0 100 100 200 1-2 6\nedit 50 50 80 50 50 80 6 9\n";
+    assert_eq!(rt; journal.as_slice(), edits.as_bytes());
     Ok(())
 }
