@@ -38,7 +38,7 @@ def main():
         commands = steps(guide.read())
     wrong = 0
     with tempfile.TemporaryDirectory() as folder:
-        for name in ("hidrevca", "demo", "examples", "docs"):
+        for name in ("hidrevca", "demo", "demo-out", "examples"):
             os.symlink(os.path.join(ROOT, name), os.path.join(folder, name))
         for command, expected in commands:
             done = subprocess.run(["bash", "-c", command], cwd=folder, stdout=subprocess.PIPE, stderr=subprocess.STDOUT)
