@@ -1,4 +1,4 @@
-use crate::plain::{ONE, Record, plain, words};
+use crate::plain::{ONE, Record, gapped, plain, plain_of, words};
 use std::alloc::Global;
 use std::test::Fail;
 use view_base::Bytes;
@@ -87,5 +87,25 @@ fn the_largest_products_do_not_wrap(rt: HostRuntime) -> Result<(), Fail> {
     assert!(rt; bytes.starts_with(b"P6\n768 1\n255\n"));
     assert!(rt; bytes[13..2314].iter().all(|byte| *byte == 0));
     assert!(rt; bytes.ends_with(b"\xC6\x86\xFA"));
+    Ok(())
+}
+
+#[test]
+fn a_survey_of_another_layout_is_drawn(rt: HostRuntime) -> Result<(), Fail> {
+    let alloc = rt.alloc();
+    let class_2 = b"P6\n1 1\n255\n\xC6\x86\xFA";
+    let class_200 = b"P6\n1 1\n255\n\x98\xD8\x68";
+    let no_point = b"P6\n1 1\n255\n\0\0\0";
+    for (name, survey, size, picture) in [
+        ("format 6", plain_of(alloc, 6, 30, &[(0, 0, 5, 0xC8)])?, 405, class_200),
+        ("format 5", plain_of(alloc, 5, 63, &[(0, 0, 5, 0xE2)])?, 438, class_2),
+        ("a gap", gapped(alloc)?, 435, no_point),
+    ] {
+        let bytes = survey.len();
+        assert_eq!(rt; bytes, size, "{name}");
+        let (status, drawing) = drawn(alloc, survey, ONE_PIXEL)?;
+        assert_eq!(rt; status, Status::Done, "{name}");
+        assert_eq!(rt; drawing.as_slice(), picture, "{name}");
+    }
     Ok(())
 }

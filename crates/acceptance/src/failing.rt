@@ -23,8 +23,8 @@ fn ended(alloc: Global, name: &str, call: DeskCall, at: u64) -> Result<(Status, 
     desk.put("a.ppm", before)?;
     desk.fail(name, call, at)?;
     let line = "draw a.las a.ppm 1 ortho 1 1 0 0 0 1 0 0 0 1 0 0 0 1 1 1 0 10 class all show";
-    let status = run(alloc, &words(alloc, line)?, &mut desk, &NoBeside);
-    Ok((status, desk))
+    let ended = run(alloc, &words(alloc, line)?, &mut desk, &NoBeside);
+    Ok((ended.status, desk))
 }
 
 /// What is counted of the survey and of the picture.

@@ -1,39 +1,84 @@
 use std::alloc::{AllocError, Global};
 use view_base::{Bytes, OutOfMemory};
 
-/// A record of a plain survey: X, Y, Z and the class byte.
+/// A record of a survey: X, Y, Z and the class byte.
 pub(crate) type Record = (i32, i32, i32, u8);
 
 /// The record at (0, 0, 5) in class 2.
 pub(crate) const ONE: [Record; 1] = [(0, 0, 5, 2)];
 
-/// The bytes of a plain LAS 1.4 survey with these records: a header of 375 bytes, then 20 bytes for
-/// each record.
+/// The bytes of a LAS 1.4 survey of format 0 with these records: a header of 375 bytes, then 20
+/// bytes for each record.
 pub(crate) fn plain(alloc: Global, records: &[Record]) -> Result<Bytes, OutOfMemory> {
+    plain_of(alloc, 0, 20, records)
+}
+
+/// The bytes of a LAS 1.4 survey of a point data record format with records of this length in
+/// bytes: a header of 375 bytes, then the records. Every byte that is not told is 0.
+pub(crate) fn plain_of(
+    alloc: Global,
+    format: u8,
+    length: u16,
+    records: &[Record],
+) -> Result<Bytes, OutOfMemory> {
+    let mut bytes = header(alloc, 375, 0, format, length, records.len())?;
+    for (x, y, z, class) in records {
+        append_record(&mut bytes, format, length, [*x, *y, *z], *class)?;
+    }
+    Ok(bytes)
+}
+
+/// The 435 bytes of a survey without points and with one variable length record of 55 bytes, after
+/// which five bytes stand before the place of the points.
+pub(crate) fn gapped(alloc: Global) -> Result<Bytes, OutOfMemory> {
+    let mut bytes = header(alloc, 435, 1, 0, 20, 0)?;
+    bytes.append(&[0; 20])?;
+    bytes.append(&1u16.to_le_bytes())?;
+    bytes.append(&[0; 38])?;
+    Ok(bytes)
+}
+
+/// A public header block of 375 bytes.
+fn header(
+    alloc: Global,
+    points_at: u32,
+    vlrs: u32,
+    format: u8,
+    length: u16,
+    records: usize,
+) -> Result<Bytes, OutOfMemory> {
     let mut bytes = Bytes::new(alloc);
     bytes.append(b"LASF")?;
     bytes.append(&[0; 20])?;
     bytes.append(&[1, 4])?;
     bytes.append(&[0; 68])?;
     bytes.append(&375u16.to_le_bytes())?;
-    bytes.append(&375u32.to_le_bytes())?;
-    bytes.append(&[0; 5])?;
-    bytes.append(&20u16.to_le_bytes())?;
+    bytes.append(&points_at.to_le_bytes())?;
+    bytes.append(&vlrs.to_le_bytes())?;
+    bytes.append(&[format])?;
+    bytes.append(&length.to_le_bytes())?;
     bytes.append(&[0; 140])?;
-    bytes.append(&(records.len() as u64).to_le_bytes())?;
+    bytes.append(&(records as u64).to_le_bytes())?;
     bytes.append(&[0; 120])?;
-    for (x, y, z, class) in records {
-        append_record(&mut bytes, *x, *y, *z, *class)?;
-    }
     Ok(bytes)
 }
 
-/// Appends one record of 20 bytes.
-fn append_record(bytes: &mut Bytes, x: i32, y: i32, z: i32, class: u8) -> Result<(), OutOfMemory> {
-    bytes.append(&x.to_le_bytes())?;
-    bytes.append(&y.to_le_bytes())?;
-    bytes.append(&z.to_le_bytes())?;
-    bytes.append(&[0, 0, 0, class, 0, 0, 0, 0])
+/// Appends one record, its class byte at place 15 in the formats 0 to 5 and at 16 in the others.
+fn append_record(
+    bytes: &mut Bytes,
+    format: u8,
+    length: u16,
+    place: [i32; 3],
+    class: u8,
+) -> Result<(), OutOfMemory> {
+    for coordinate in place {
+        bytes.append(&coordinate.to_le_bytes())?;
+    }
+    let class_at = if format <= 5 { 15 } else { 16 };
+    for at in 12..length {
+        bytes.append(&[if at == class_at { class } else { 0 }])?;
+    }
+    Ok(())
 }
 
 /// The words of a line, cut at its blanks.

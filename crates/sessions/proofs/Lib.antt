@@ -1,5 +1,10 @@
-pub mod Histories
-pub mod Tales
-pub mod Replying
-pub mod Adding
-pub mod Unserved
+mod Histories
+mod Tales
+mod Replying
+mod Adding
+mod Lines
+mod Heard
+mod Taking
+mod Processing
+mod Examples
+mod Answered

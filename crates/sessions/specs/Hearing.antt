@@ -1,5 +1,5 @@
 -- A session part way through its input.
-use Rattle.std.specs.Prelude.{◌≡◌, ℕ, ◌+◌, ◌≤◌, ◌<◌, List, ◌++◌, length, Bool, IsTrue, IsFalse, Option}
+use Rattle.std.specs.Prelude.{◌≡◌, ℕ, ◌+◌, ◌≤◌, ◌<◌, List, length, IsTrue, IsFalse, Option}
 use Rattle.view_meaning.specs.Survey.{format_of}
 use Rattle.sessions.specs.declared.pending.Pending.{Pending}
 use Rattle.sessions.specs.declared.talk.Talk.{Talk}

@@ -1,5 +1,5 @@
 -- Histories of the versions of a survey's classes.
-use Rattle.std.specs.Prelude.{◌≡◌, ℕ, zero, suc, ◌+◌, ◌-◌, ◌<◌, ◌==◌, ◌&&◌, ◌||◌, nat_lt, if◌then◌else◌, Bool, true, false, List, [], ◌∷◌, ◌++◌, length, map, filter, take, drop, fold, count_by, sum_by, Option, Some, None, slice_get}
+use Rattle.std.specs.Prelude.{◌≡◌, ℕ, ◌+◌, ◌-◌, ◌<◌, ◌==◌, ◌&&◌, ◌||◌, nat_lt, Bool, true, false, List, [], ◌∷◌, length, map, filter, take, count_by, sum_by, Some, slice_get}
 use Rattle.std.specs.List.{range_with_len, flat_map}
 use Rattle.view_meaning.specs.Classes as meaning
 use Rattle.sessions.specs.declared.history.What.{What}

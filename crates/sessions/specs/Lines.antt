@@ -1,5 +1,5 @@
 -- The lines of a session's input, and the commands that they are. A text is the list of its bytes.
-use Rattle.std.specs.Prelude.{ℕ, ◌-◌, ◌==◌, ◌&&◌, nat_lt, nat_le, if◌then◌else◌, Bool, List, [], ◌∷◌, ◌++◌, length, take, slice_index, slice_index_or, Result, Ok, Err}
+use Rattle.std.specs.Prelude.{ℕ, ◌-◌, ◌==◌, ◌&&◌, nat_lt, nat_le, if◌then◌else◌, Bool, List, [], ◌∷◌, ◌++◌, length, take, slice_index, slice_index_or, Result, Err}
 use Rattle.std.specs.List.{slice_split, flat_map}
 use Rattle.view_base.specs.Text.{words}
 use Rattle.view_lines.specs.Command.{command_of}

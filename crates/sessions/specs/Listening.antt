@@ -1,5 +1,5 @@
 -- A session whose input was heard as far as it goes.
-use Rattle.std.specs.Prelude.{◌≡◌, ℕ, ◌≤◌, List, length, Option, IfSome, Result, Ok, Err}
+use Rattle.std.specs.Prelude.{◌≡◌, ℕ, ◌≤◌, List, Option, IfSome, Result, Ok, Err}
 use Rattle.view_ends.specs.Ends.{Rose}
 use Rattle.view_ends.specs.declared.fault.EndFault.{EndFault}
 use Rattle.view_ends.specs.declared.fault.EndFault.TheVariants as fault

@@ -1,5 +1,5 @@
 -- What a session answers.
-use Rattle.std.specs.Prelude.{◌≡◌, ℕ, ◌-◌, List, [], ◌∷◌, ◌++◌, length, take, codes, decimal, Result, Ok, Err}
+use Rattle.std.specs.Prelude.{ℕ, ◌-◌, List, [], ◌∷◌, ◌++◌, length, take, codes, decimal, Ok, Err}
 use Rattle.view_meaning.specs.Classes as meaning
 use Rattle.view_meaning.specs.Classes.{classes}
 use Rattle.view_meaning.specs.Picture.{picture}

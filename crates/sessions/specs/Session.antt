@@ -1,6 +1,6 @@
 -- What one session does: which items it may have processed, which entries of the history are its own, under
 -- which marks it answered, and what its output got.
-use Rattle.std.specs.Prelude.{◌≡◌, ℕ, ◌+◌, ◌-◌, ◌^◌, ◌<◌, ◌≤◌, ◌==◌, ◌⊎◌, ◌↔◌, nat_lt, min, List, [], ◌∷◌, ◌++◌, length, take, drop, filter, slice_index, slice_get, Option, Some, IfSome, Result, Ok, Err}
+use Rattle.std.specs.Prelude.{◌≡◌, ℕ, ◌+◌, ◌-◌, ◌^◌, ◌<◌, ◌≤◌, ◌==◌, ◌⊎◌, ◌↔◌, min, List, [], ◌∷◌, ◌++◌, length, take, drop, filter, slice_index, slice_get, Option, Some, IfSome, Ok, Err}
 use Rattle.view_ends.specs.Ends.{Gains}
 use Rattle.view_meaning.specs.Classes as meaning
 use Rattle.view_meaning.specs.Survey.{format_of}
@@ -40,6 +40,10 @@ pub record Processed (format : ℕ) (input : List ℕ) (taken : ℕ) (reason : r
   pub limit : (reason ≡ SessionLimit) ↔ (taken ≡ LIMIT + 1)
   pub few : taken ≤ LIMIT + 1
   pub items_are : MayProcess format input taken items reason
+
+-- of the lists of items of which this holds, those of the same length are one
+abbrev pub AtMostOne : (List Item → Type 0) → Type 0
+AtMostOne P = (items others : List Item) → length items ≡ length others → P items → P others → items ≡ others
 
 -- the entries of a caller after the first so many of a history, each with the newest version once it was made
 unfoldable pub own : ℕ → ℕ → List Entry → List (Entry × ℕ)

@@ -1,7 +1,7 @@
 -- What is kept while one session alone makes a history.
-use Rattle.std.specs.Prelude.{◌≡◌, ℕ, ◌+◌, ◌-◌, ◌≤◌, ◌<◌, ◌⊎◌, List, [], ◌∷◌, ◌++◌, length, take, slice_index, slice_index_or, Bool, IsTrue, IsFalse, All, Option, Result, Ok, Err}
+use Rattle.std.specs.Prelude.{◌≡◌, ℕ, ◌+◌, ◌-◌, ◌≤◌, ◌<◌, ◌⊎◌, List, [], ◌∷◌, ◌++◌, length, take, slice_index, slice_index_or, Bool, IsTrue, IsFalse, All, Option, Ok, Err}
 use Rattle.view_meaning.specs.Classes as meaning
-use Rattle.view_meaning.specs.Survey.{format_of, record_count}
+use Rattle.view_meaning.specs.Survey.{format_of}
 use Rattle.class_pages.specs.Fitting.{EachFits}
 use Rattle.view_lines.specs.declared.command.Command.TheVariants.{View, Edit, Save}
 use Rattle.view_ends.specs.Ends.{Gains, GainsPart}

@@ -2,7 +2,10 @@
 //! versions that it makes and pins.
 #![tactic(auto)]
 
+mod answering;
 mod end;
+mod heads;
+mod hearing;
 mod history;
 mod pending;
 mod serving;

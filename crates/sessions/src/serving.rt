@@ -1,41 +1,73 @@
-ghost use Rattle.std.specs.Prelude.{◌≡◌, ◌+◌, ◌≤◌, [], All};
+ghost use Rattle.std.specs.Prelude.{◌≡◌, ℕ, ◌+◌, ◌≤◌, List, [], All};
 ghost use Rattle.std.specs.Arc.{arc_value};
 ghost use Rattle.view_ends.specs.Ends.{Rose};
+ghost use Rattle.view_meaning.specs.Survey.{format_of};
 ghost use Rattle.sessions.specs.Histories.{IsLegal, IsGivenBack};
 ghost use Rattle.sessions.specs.Hearing.{HasHeard};
 ghost use Rattle.sessions.specs.Listening.{Listened, Read, Wrote, reason_of};
-ghost use Rattle.sessions.specs.Session.{Served};
+ghost use Rattle.sessions.specs.Session.{Served, Processed, AtMostOne};
 ghost use Rattle.sessions.specs.declared.end.Reason.TheVariants.{Memory, ReadFault, WriteFault};
 
 use crate::end::{Marks, Reason, SessionEnd};
+use crate::hearing::{hear, hear_end};
 use crate::history::History;
+use crate::pending::Pending;
+use crate::talk::Talk;
+use class_pages::base;
 use plain_picture::Scene;
 use std::alloc::Global;
-use view_ends::{Beside, Sink, Source};
+use view_ends::{Beside, EndFault, Failed, Sink, Source};
+
+/// The most bytes of a session's input.
+const LIMIT: usize = 1 << 20;
+
+/// How many bytes are asked of a source at once.
+const PIECE: usize = 1 << 14;
 
 /// Serves one session that alone edits: answers each line of its input in order, and writes each
 /// reply before it asks for bytes that come after the line.
 ///
-/// The history is empty at first, and then has the session's entries, with the number 1.
+/// The history is empty at first, and then has the session's entries, with the number 1. Which
+/// lines it processed is known by its input, how many bytes of it were taken, why it ended and how
+/// many marks it has.
 pub fn serve_alone<I: Source, O: Sink, B: Beside>(
     alloc: Global,
-    _scene: &Scene,
-    _history: &mut History,
-    _source: &mut I,
-    _sink: &mut O,
-    _beside: &B,
+    scene: &Scene,
+    history: &mut History,
+    source: &mut I,
+    sink: &mut O,
+    beside: &B,
 ) -> SessionEnd
-    requires workers { (1 ≤ _scene.now.workers) × (_scene.now.workers ≤ 64) }
-    requires empty { _history.old.items ≡ [] }
-    ensures served { Served (arc_value _scene.now.survey) [] _history.new.items 1 (I.left _source.old) (O.got _sink.old) (O.got _sink.new) result.marks.items result.reason result.taken }
-    ensures legal { IsLegal _history.new.items }
-    ensures mine { All (λ entry. entry.who ≡ 1) _history.new.items }
-    ensures given_back { IsGivenBack _history.new.items }
-    ensures taken { I.taken _source.new ≡ I.taken _source.old + result.taken }
-    ensures reads { Read (I.faults _source.old) (I.faults _source.new) result.reason }
-    ensures writes { Wrote (O.faults _sink.old) (O.faults _sink.new) result.reason }
+    requires workers { (1 ≤ scene.now.workers) × (scene.now.workers ≤ 64) }
+    requires empty { history.old.items ≡ [] }
+    ensures served { Served (arc_value scene.now.survey) [] history.new.items 1 (I.left source.old) (O.got sink.old) (O.got sink.new) result.marks.items result.reason result.taken }
+    ensures one { (input : List ℕ) → AtMostOne (Processed (format_of (arc_value scene.now.survey)) input result.taken result.reason) }
+    ensures legal { IsLegal history.new.items }
+    ensures mine { All (λ entry. entry.who ≡ 1) history.new.items }
+    ensures given_back { IsGivenBack history.new.items }
+    ensures taken { I.taken source.new ≡ I.taken source.old + result.taken }
+    ensures reads { Read (I.faults source.old) (I.faults source.new) result.reason }
+    ensures writes { Wrote (O.faults sink.old) (O.faults sink.new) result.reason }
 {
-    memory_end(alloc)
+    let Ok(classes) = base(alloc, &scene.survey) else {
+        return memory_end(alloc);
+    };
+    let Ok(mut pending) = Pending::new(alloc) else {
+        return memory_end(alloc);
+    };
+    let mut talk = Talk {
+        classes,
+        newest: 0,
+        history: History::new(alloc),
+        marks: Marks::new(alloc),
+    };
+    let (reason, taken) = listen(alloc, scene, &mut talk, &mut pending, source, sink, beside);
+    *history = talk.history;
+    SessionEnd {
+        marks: talk.marks,
+        reason,
+        taken,
+    }
 }
 
 /// The end of a session for which there was no memory at all.
@@ -44,5 +76,62 @@ fn memory_end(alloc: Global) -> SessionEnd
     ensures reason { result.reason ≡ Memory }
     ensures taken { result.taken ≡ 0 }
 {
-    SessionEnd { marks: Marks::new(alloc), reason: Reason::Memory, taken: 0 }
+    SessionEnd {
+        marks: Marks::new(alloc),
+        reason: Reason::Memory,
+        taken: 0,
+    }
+}
+
+/// Hears an input to its end, or as far as it goes, and answers why it went no further and how
+/// many bytes were taken.
+fn listen<I: Source, O: Sink, B: Beside>(
+    alloc: Global,
+    scene: &Scene,
+    talk: &mut Talk,
+    pending: &mut Pending,
+    source: &mut I,
+    sink: &mut O,
+    beside: &B,
+) -> (Reason, u64)
+    requires workers { (1 ≤ scene.now.workers) × (scene.now.workers ≤ 64) }
+    requires heard { HasHeard (arc_value scene.now.survey) [] talk.old pending.old (O.got sink.old) (O.got sink.old) }
+    ensures listened { Listened (arc_value scene.now.survey) talk.new (I.left source.old) (O.got sink.old) (O.got sink.new) result.0 result.1 }
+    ensures taken { I.taken source.new ≡ I.taken source.old + result.1 }
+    ensures reads { Read (I.faults source.old) (I.faults source.new) result.0 }
+    ensures writes { Wrote (O.faults sink.old) (O.faults sink.new) result.0 }
+{
+    let mut piece = [0u8; PIECE];
+    let mut taken = 0;
+    loop {
+        let room = (LIMIT - taken).max(1).min(PIECE);
+        match source.take(&mut piece[..room]) {
+            Err(Failed) => return (Reason::ReadFault, taken as u64),
+            Ok(0) => {
+                let last = hear_end(alloc, scene, talk, pending, beside, sink);
+                return (reason_of(last), taken as u64);
+            }
+            Ok(n) => {
+                taken += n;
+                if taken > LIMIT {
+                    return (Reason::SessionLimit, taken as u64);
+                }
+                let heard = hear(alloc, scene, talk, pending, &piece[..n], beside, sink);
+                if heard.is_err() {
+                    return (reason_of(heard), taken as u64);
+                }
+            }
+        }
+    }
+}
+
+/// Why a session ended whose last replies went so.
+fn reason_of(answered: Result<(), EndFault>) -> Reason
+    ensures { result ≡ reason_of answered }
+{
+    match answered {
+        Ok(()) => Reason::Finished,
+        Err(EndFault::Failed) => Reason::WriteFault,
+        Err(EndFault::Memory) => Reason::Memory,
+    }
 }

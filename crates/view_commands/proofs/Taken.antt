@@ -1,7 +1,7 @@
 -- Bytes that were taken to their end from an input that was shut then, and a front that an output got.
-use Rattle.std.proofs.Common.{◌≡◌, ℕ, ◌+◌, ◌≤◌, List, [], ◌++◌, length, take, Option, Some, None, IfSome, refl, sym, ◌∙◌, ap, subst, arith, append-nil}
+use Rattle.std.proofs.Common.{◌≡◌, ℕ, ◌≤◌, List, [], ◌++◌, length, take, Option, Some, None, IfSome, ◌∙◌, ap, subst, arith, append-nil}
 use Rattle.las_survey.specs.declared.loading.TheConstants.{LIMIT}
-use Rattle.las_survey.specs.Loading.{Took, TookAll}
+use Rattle.las_survey.specs.Loading.{TookAll}
 use Rattle.view_ends.specs.Ends.{RoseBy, Leaves, Ended, GainsPart}
 use Rattle.view_commands.specs.Desk.{Said}
 use Rattle.view_commands.specs.Files.{TakenToTheEnd, HoldsFront}

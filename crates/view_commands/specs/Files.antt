@@ -1,8 +1,11 @@
 -- A survey that is read from a desk, and a file that is written to one.
-use Rattle.std.specs.Prelude.{◌≡◌, ℕ, ◌+◌, ◌<◌, ◌≤◌, ◌⊎◌, Bool, IsTrue, List, length, take, Option, Some, IsSome, IfSome, Result, IfOk, OnOk, OnErr, IsErrOf}
+use Rattle.std.specs.Prelude.{◌≡◌, ℕ, ◌+◌, ◌<◌, ◌≤◌, ◌⊎◌, Bool, IsTrue, List, length, take, Some, IsSome, IfSome, Result, IfOk, OnOk, IsErrOf}
+use Rattle.las_survey.specs.Fault.{fault_of}
+use Rattle.las_survey.specs.declared.fault.SurveyFault.{SurveyFault}
 use Rattle.las_survey.specs.declared.loading.TheConstants.{LIMIT}
 use Rattle.view_ends.specs.Ends.{Rose, RoseBy, AllStay, OthersStay, NoneFalls}
-use Rattle.view_meaning.specs.Survey.{IsPlain}
+use Rattle.view_meaning.specs.Layout as layout
+use Rattle.view_meaning.specs.Layout.{IsLaid}
 use Rattle.view_commands.specs.Desk.{Said}
 use Rattle.view_commands.specs.declared.files.SurveyRefusal as refusal
 use Rattle.view_commands.specs.declared.files.SurveyRefusal.TheVariants as survey
@@ -19,12 +22,12 @@ pub record TakenToTheEnd (old new : Said) (name bytes : List ℕ) : Type 0 where
 pub record ReadsSurvey (tells : Bool) (old new : Said) (name : List ℕ) (result : Result (List ℕ) refusal.SurveyRefusal) : Type 0 where
   pub bytes : IfOk result (λ b. TakenToTheEnd old new name b)
   pub there : IsTrue tells → OnOk result (IsSome (old.file name))
-  pub plain : IfOk result IsPlain
+  pub laid : IfOk result IsLaid
   pub open_fault : IsErrOf result survey.Open → Rose (old.reads name) (new.reads name)
   pub read_fault : IsErrOf result survey.Read → Rose (old.reads name) (new.reads name)
   pub too_long : IsErrOf result survey.TooLong → RoseBy (LIMIT + 1) (old.taken name) (new.taken name)
   pub too_many : IsErrOf result survey.TooLong → IfSome (old.file name) (λ b. LIMIT < length b)
-  pub not_yet : IsErrOf result survey.NotYet → (b : List ℕ) × TakenToTheEnd old new name b × (IsPlain b → ⊥)
+  pub survey : (fault : SurveyFault) → IsErrOf result (survey.Survey fault) → (b : List ℕ) × TakenToTheEnd old new name b × (layout.fault b ≡ Some (fault_of fault))
   pub files : AllStay old.file new.file
   pub writes : AllStay old.writes new.writes
   pub unkept : AllStay old.unkept new.unkept

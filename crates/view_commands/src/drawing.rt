@@ -1,15 +1,21 @@
-ghost use Rattle.view_commands.specs.Draw.{Answers, Draws, WritesPicture, drawn};
-ghost use Rattle.view_commands.specs.Words.{texts};
+ghost use Rattle.std.specs.Prelude.{◌≡◌, [], ◌≤◌, length, IfOk};
+ghost use Rattle.view_meaning.specs.Classes.{classes};
+ghost use Rattle.view_meaning.specs.Picture.{picture};
+ghost use Rattle.view_commands.specs.Draw.{Answers, AnswersLine, Draws, WritesPicture, drawn};
+ghost use Rattle.view_words.specs.CommandLine.{IsLine, texts};
 
 use crate::files::{SurveyRefusal, WriteRefusal, read_survey, write_file};
 use crate::status::Status;
-use crate::words::{draw_numbers, text_at};
+use class_pages::base;
 use int_camera::{Camera, CameraNumbers, Kind};
 use las_survey::Survey;
-use plain_picture::picture;
+use plain_picture::{Scene, picture};
 use std::alloc::Global;
-use view_base::Bytes;
+use std::sync::Arc;
+use view_base::{Bytes, OutOfMemory};
 use view_ends::{Beside, Desk};
+use view_text::ViewSpec;
+use view_words::{Row, is_built, numbers_of, read_row, text_at, workers};
 
 /// The place of the survey's name on the command line.
 const SURVEY: u32 = 1;
@@ -17,62 +23,114 @@ const SURVEY: u32 = 1;
 /// The place of the picture's name on the command line.
 const OUT: u32 = 2;
 
-/// Writes one picture of a survey. The words are those of the command line, `draw` first.
+/// Writes one picture of a survey. The words are those of the command line, `draw` first; those of
+/// another command are refused.
 ///
 /// The picture is whole in memory before its file is opened, so no refusal before that touches a
-/// file. Whoever watches is told nothing yet: there are no workers.
-pub fn draw<D: Desk, B: Beside>(
+/// file. How many workers draw it changes no byte.
+pub fn draw<D: Desk, B: Beside>(alloc: Global, words: &[String], desk: &mut D, beside: &B) -> Status
+    ensures { Answers D.tells (record { file = D.file desk.old; reads = D.read_faults desk.old; writes = D.write_faults desk.old; taken = D.taken desk.old; unkept = D.unkept desk.old }) (record { file = D.file desk.new; reads = D.read_faults desk.new; writes = D.write_faults desk.new; taken = D.taken desk.new; unkept = D.unkept desk.new }) (texts words.now) result }
+{
+    match read_row(Row::Draw, words) {
+        Ok(()) => draw_line(alloc, words, desk, beside),
+        Err(at) => Status::Words { at },
+    }
+}
+
+/// Writes the picture that the words of a `draw` ask for, which fit.
+pub(crate) fn draw_line<D: Desk, B: Beside>(
     alloc: Global,
     words: &[String],
     desk: &mut D,
-    _beside: &B,
+    beside: &B,
 ) -> Status
-    ensures { Answers D.tells (record { file = D.file desk.old; reads = D.read_faults desk.old; writes = D.write_faults desk.old; taken = D.taken desk.old; unkept = D.unkept desk.old }) (record { file = D.file desk.new; reads = D.read_faults desk.new; writes = D.write_faults desk.new; taken = D.taken desk.new; unkept = D.unkept desk.new }) (texts words.now) result }
+    requires line { IsLine Row.Draw (texts words.now) }
+    requires long { 26 ≤ length words.now }
+    ensures { AnswersLine D.tells (record { file = D.file desk.old; reads = D.read_faults desk.old; writes = D.write_faults desk.old; taken = D.taken desk.old; unkept = D.unkept desk.old }) (record { file = D.file desk.new; reads = D.read_faults desk.new; writes = D.write_faults desk.new; taken = D.taken desk.new; unkept = D.unkept desk.new }) (texts words.now) result }
 {
-    let Some(n) = draw_numbers(words) else {
+    if !is_built(words) {
         return Status::NotYet;
-    };
+    }
     match Camera::new(&CameraNumbers {
         kind: Kind::Ortho,
-        n,
+        n: numbers_of(words),
     }) {
-        Ok(camera) => draw_file(alloc, text_at(words, 1), text_at(words, 2), &camera, desk),
+        Ok(camera) => {
+            let workers = workers(Row::Draw, words);
+            let (name, out) = (text_at(words, 1), text_at(words, 2));
+            draw_file(alloc, name, out, &camera, workers, desk, beside)
+        }
         Err(limit) => Status::Limit(limit),
     }
 }
 
 /// Draws the survey of one name into the file of another.
-fn draw_file<D: Desk>(alloc: Global, name: &str, out: &str, camera: &Camera, desk: &mut D) -> Status
+fn draw_file<D: Desk, B: Beside>(
+    alloc: Global,
+    name: &str,
+    out: &str,
+    camera: &Camera,
+    workers: u32,
+    desk: &mut D,
+    beside: &B,
+) -> Status
+    requires workers { (1 ≤ workers) × (workers ≤ 64) }
     ensures { Draws D.tells (record { file = D.file desk.old; reads = D.read_faults desk.old; writes = D.write_faults desk.old; taken = D.taken desk.old; unkept = D.unkept desk.old }) (record { file = D.file desk.new; reads = D.read_faults desk.new; writes = D.write_faults desk.new; taken = D.taken desk.new; unkept = D.unkept desk.new }) name.now out.now camera.now result }
 {
     match read_survey(alloc, desk, name) {
-        Ok(survey) => draw_survey(alloc, &survey, out, camera, desk),
-        Err(SurveyRefusal::Open) => Status::OpenFault { at: SURVEY },
-        Err(SurveyRefusal::Read) => Status::ReadFault { at: SURVEY },
-        Err(SurveyRefusal::TooLong) => Status::TooLong,
-        Err(SurveyRefusal::NotYet) => Status::NotYet,
-        Err(SurveyRefusal::Memory) => Status::Memory,
+        Ok(survey) => draw_survey(alloc, survey, out, camera, workers, desk, beside),
+        Err(refusal) => match refusal {
+            SurveyRefusal::Open => Status::OpenFault { at: SURVEY },
+            SurveyRefusal::Read => Status::ReadFault { at: SURVEY },
+            SurveyRefusal::TooLong => Status::TooLong,
+            SurveyRefusal::Survey(fault) => Status::Survey(fault),
+            SurveyRefusal::Memory => Status::Memory,
+        },
     }
 }
 
 /// Draws a survey into a file.
-fn draw_survey<D: Desk>(
+fn draw_survey<D: Desk, B: Beside>(
     alloc: Global,
-    survey: &Survey,
+    survey: Survey,
     out: &str,
     camera: &Camera,
+    workers: u32,
     desk: &mut D,
+    beside: &B,
 ) -> Status
-    ensures { WritesPicture D.tells (record { file = D.file desk.old; reads = D.read_faults desk.old; writes = D.write_faults desk.old; taken = D.taken desk.old; unkept = D.unkept desk.old }) (record { file = D.file desk.new; reads = D.read_faults desk.new; writes = D.write_faults desk.new; taken = D.taken desk.new; unkept = D.unkept desk.new }) out.now (drawn survey.now camera.now) result }
+    requires workers { (1 ≤ workers) × (workers ≤ 64) }
+    ensures { WritesPicture D.tells (record { file = D.file desk.old; reads = D.read_faults desk.old; writes = D.write_faults desk.old; taken = D.taken desk.old; unkept = D.unkept desk.old }) (record { file = D.file desk.new; reads = D.read_faults desk.new; writes = D.write_faults desk.new; taken = D.taken desk.new; unkept = D.unkept desk.new }) out.now (drawn survey camera.now) result }
 {
+    match picture_of(alloc, survey, camera, workers, beside) {
+        Ok(bytes) => match write_file(desk, out, bytes.as_slice()) {
+            Ok(()) => Status::Done,
+            Err(WriteRefusal::Open) => Status::OpenFault { at: OUT },
+            Err(WriteRefusal::Write) => Status::WriteFault { at: OUT },
+            Err(WriteRefusal::Memory) => Status::Memory,
+        },
+        Err(OutOfMemory) => Status::Memory,
+    }
+}
+
+/// The picture of a survey as the file itself has its classes, by class.
+fn picture_of<B: Beside>(
+    alloc: Global,
+    survey: Survey,
+    camera: &Camera,
+    workers: u32,
+    beside: &B,
+) -> Result<Bytes, OutOfMemory>
+    requires workers { (1 ≤ workers) × (workers ≤ 64) }
+    ensures { IfOk result (λ bytes. bytes.items ≡ drawn survey camera.now) }
+{
+    let scene = Scene {
+        survey: Arc::new(alloc, survey)?,
+        workers,
+    };
+    let classes = base(alloc, &scene.survey)?;
+    let view = ViewSpec::by_class(*camera);
     let mut bytes = Bytes::new(alloc);
-    if picture(alloc, survey, camera, &mut bytes).is_err() {
-        return Status::Memory;
-    }
-    match write_file(desk, out, bytes.as_slice()) {
-        Ok(()) => Status::Done,
-        Err(WriteRefusal::Open) => Status::OpenFault { at: OUT },
-        Err(WriteRefusal::Write) => Status::WriteFault { at: OUT },
-        Err(WriteRefusal::Memory) => Status::Memory,
-    }
+    picture(alloc, &scene, &classes, &view, beside, &mut bytes)?;
+    Ok(bytes)
 }

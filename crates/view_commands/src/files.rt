@@ -1,6 +1,6 @@
 ghost use Rattle.view_commands.specs.Files.{ReadsSurvey, Writes};
 
-use las_survey::{LoadFault, Survey, load};
+use las_survey::{LoadFault, Survey, SurveyFault, load};
 use std::alloc::Global;
 use view_ends::{Desk, EndFault, give_all};
 
@@ -13,8 +13,8 @@ pub(crate) enum SurveyRefusal {
     Read,
     /// It has more than 2^30 bytes.
     TooLong,
-    /// It is no plain survey.
-    NotYet,
+    /// The first fault of its layout.
+    Survey(SurveyFault),
     /// Want of memory.
     Memory,
 }
@@ -50,7 +50,7 @@ pub(crate) fn read_survey<D: Desk>(
         Err(fault) => match fault {
             LoadFault::ReadFault => Err(SurveyRefusal::Read),
             LoadFault::TooLong => Err(SurveyRefusal::TooLong),
-            LoadFault::NotYet => Err(SurveyRefusal::NotYet),
+            LoadFault::Survey(fault) => Err(SurveyRefusal::Survey(fault)),
             LoadFault::Memory => Err(SurveyRefusal::Memory),
         },
     }

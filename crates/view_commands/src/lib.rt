@@ -6,8 +6,9 @@ mod drawing;
 mod files;
 mod running;
 mod status;
-mod words;
+mod told;
 
 pub use drawing::draw;
 pub use running::run;
 pub use status::{Status, code};
+pub use told::{Ended, Told};

@@ -1,14 +1,40 @@
-ghost use Rattle.view_commands.specs.Draw.{Answers};
-ghost use Rattle.view_commands.specs.Words.{texts};
+ghost use Rattle.std.specs.Prelude.{◌≤◌, length};
+ghost use Rattle.view_commands.specs.Run.{Runs, RunsLine};
+ghost use Rattle.view_words.specs.CommandLine.{IsLine, least_words, texts};
 
-use crate::drawing::draw;
+use crate::drawing::draw_line;
 use crate::status::Status;
+use crate::told::{Ended, Told};
 use std::alloc::Global;
 use view_ends::{Beside, Desk};
+use view_words::{Row, read_words};
 
 /// Runs the command that the words of the command line ask for, without the program's name.
-pub fn run<D: Desk, B: Beside>(alloc: Global, words: &[String], desk: &mut D, beside: &B) -> Status
-    ensures { Answers D.tells (record { file = D.file desk.old; reads = D.read_faults desk.old; writes = D.write_faults desk.old; taken = D.taken desk.old; unkept = D.unkept desk.old }) (record { file = D.file desk.new; reads = D.read_faults desk.new; writes = D.write_faults desk.new; taken = D.taken desk.new; unkept = D.unkept desk.new }) (texts words.now) result }
+pub fn run<D: Desk, B: Beside>(alloc: Global, words: &[String], desk: &mut D, beside: &B) -> Ended
+    ensures { Runs D.tells (record { file = D.file desk.old; reads = D.read_faults desk.old; writes = D.write_faults desk.old; taken = D.taken desk.old; unkept = D.unkept desk.old }) (record { file = D.file desk.new; reads = D.read_faults desk.new; writes = D.write_faults desk.new; taken = D.taken desk.new; unkept = D.unkept desk.new }) (texts words.now) result }
 {
-    draw(alloc, words, desk, beside)
+    match read_words(words) {
+        Ok(row) => run_line(alloc, row, words, desk, beside),
+        Err(at) => Ended::only(alloc, Status::Words { at }),
+    }
+}
+
+/// Runs the command of a row, whose words fit.
+fn run_line<D: Desk, B: Beside>(
+    alloc: Global,
+    row: Row,
+    words: &[String],
+    desk: &mut D,
+    beside: &B,
+) -> Ended
+    requires line { IsLine row (texts words.now) }
+    requires long { least_words row ≤ length words.now }
+    ensures { RunsLine row D.tells (record { file = D.file desk.old; reads = D.read_faults desk.old; writes = D.write_faults desk.old; taken = D.taken desk.old; unkept = D.unkept desk.old }) (record { file = D.file desk.new; reads = D.read_faults desk.new; writes = D.write_faults desk.new; taken = D.taken desk.new; unkept = D.unkept desk.new }) (texts words.now) result }
+{
+    match row {
+        Row::Draw => Ended::only(alloc, draw_line(alloc, words, desk, beside)),
+        Row::Info => Ended::only(alloc, Status::NotYet),
+        Row::Trial => Ended::only(alloc, Status::NotYet),
+        Row::Serve => Ended::only(alloc, Status::NotYet),
+    }
 }

@@ -2,6 +2,7 @@ ghost use Rattle.std.specs.Prelude.{◌≡◌};
 ghost use Rattle.view_commands.specs.Status.{code_of};
 
 use int_camera::CameraLimit;
+use las_survey::SurveyFault;
 use std::fmt;
 
 /// How a command ended. `at` is the place of a word of the command line, from 0.
@@ -9,6 +10,9 @@ use std::fmt;
 pub enum Status {
     /// All was done.
     Done,
+    /// The first word of the command line that is refused, or the number of words where more are
+    /// needed.
+    Words { at: u32 },
     /// The first number of the camera that is out of its range.
     Limit(CameraLimit),
     /// A file was not opened.
@@ -17,11 +21,15 @@ pub enum Status {
     ReadFault { at: u32 },
     /// The survey has more than 2^30 bytes.
     TooLong,
+    /// The first fault of the survey's layout.
+    Survey(SurveyFault),
     /// A file was not written whole, or not kept.
     WriteFault { at: u32 },
+    /// The input of a session has more than 2^20 bytes.
+    SessionLimit { at: u32 },
     /// Want of memory.
     Memory,
-    /// What the words ask for, or a survey like this one, is not built yet.
+    /// What the words ask for is not built yet.
     NotYet,
 }
 
@@ -31,11 +39,14 @@ pub fn code(status: &Status) -> u8
 {
     match status {
         Status::Done => 0,
+        Status::Words { .. } => 2,
         Status::Limit(_) => 3,
         Status::OpenFault { .. } => 5,
         Status::ReadFault { .. } => 6,
         Status::TooLong => 7,
+        Status::Survey(_) => 8,
         Status::WriteFault { .. } => 9,
+        Status::SessionLimit { .. } => 10,
         Status::Memory => 11,
         Status::NotYet => 12,
     }
@@ -50,6 +61,7 @@ impl fmt::Display for Status {
     fn fmt<W: fmt::Write>(&self, f: &mut fmt::Formatter<W>) -> fmt::Result {
         match self {
             Status::Done => Ok(()),
+            Status::Words { at } => write!(f, "word {at} is not expected"),
             Status::Limit(limit) => write!(
                 f,
                 "camera number {} is out of range: {}",
@@ -58,7 +70,9 @@ impl fmt::Display for Status {
             Status::OpenFault { at } => write!(f, "cannot open word {at}"),
             Status::ReadFault { at } => write!(f, "cannot read word {at}"),
             Status::TooLong => f.write_str("survey is too long"),
+            Status::Survey(fault) => write!(f, "survey: {fault}"),
             Status::WriteFault { at } => write!(f, "cannot write word {at}"),
+            Status::SessionLimit { at } => write!(f, "session input of word {at} is too long"),
             Status::Memory => f.write_str("out of memory"),
             Status::NotYet => f.write_str("not built yet"),
         }

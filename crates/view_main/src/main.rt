@@ -15,8 +15,8 @@ fn main(rt: HostRuntime) -> ExitCode {
     ExitCode::from(code(&status))
 }
 
-/// Runs the command and answers how it ended. Words that are no text are answered like words that
-/// no command has.
+/// Runs the command and answers how it ended. Words that are no text are answered as if the first
+/// were refused.
 fn ended(rt: &HostRuntime) -> Status {
     let words: Vec<String> = match env::args(rt) {
         Ok(args) => match args.skip(1).collect(rt.alloc()) {
@@ -34,12 +34,13 @@ fn ended(rt: &HostRuntime) -> Status {
         &mut HostDesk::new(own, rt.alloc()),
         &NoBeside,
     )
+    .status
 }
 
 /// How a run ends whose words were not read.
 fn unread(error: &io::Error) -> Status {
     match error.kind() {
         io::ErrorKind::OutOfMemory => Status::Memory,
-        _ => Status::NotYet,
+        _ => Status::Words { at: 0 },
     }
 }

@@ -1,0 +1,45 @@
+-- What a session may have processed is known by its length.
+use Rattle.std.proofs.Common.{◌≡◌, ℕ, ◌⊎◌, ◌≤◌, List, length, take, sym, ap, ◌∙◌, inl, inr, arith}
+use Rattle.std.proofs.lemmas.List.{length-take, take_all, take_min, take-append-le}
+use Rattle.sessions.specs.declared.end.Reason as reason
+use Rattle.sessions.specs.declared.end.Reason.TheVariants.{Finished, ReadFault, SessionLimit, WriteFault, Memory}
+use Rattle.sessions.specs.Lines.{Item, commands, whole}
+use Rattle.sessions.specs.Session.{IsFrontOf, within, MayProcess, Processed, AtMostOne}
+
+-- a front of a list is known by its length
+front_is : (k : ℕ) (items all : List Item) → items ≡ take k all → items ≡ take (length items) all
+front_is k items all h = h ∙ take-length k all ∙ ap (λ (u : List Item). take (length u) all) (sym h)
+  where
+    take-length : (k : ℕ) (all : List Item) → take k all ≡ take (length (take k all)) all
+    take-length k all = sym (ap (λ n. take n all) (length-take k all) ∙ take_min k all)
+
+-- the commands of a text begin what the whole of it is
+commands_front : (format : ℕ) (t : List ℕ) (n : ℕ) → n ≤ length (commands format t) → take n (commands format t) ≡ take n (whole format t)
+unfolding whole
+commands_front format t n short = sym (take-append-le n (commands format t) _ short)
+
+of_commands : (format k : ℕ) (t : List ℕ) (items : List Item) → items ≡ take k (commands format t) → items ≡ take (length items) (whole format t)
+of_commands format k t items h =
+    let all = commands format t in
+    let short : length items ≤ length all = omega (arith, ap length h, length-take k all) in
+    front_is k items all h ∙ commands_front format t (length items) short
+
+-- what was given up
+of_either : (format : ℕ) (input : List ℕ) (taken : ℕ) (items : List Item) → IsFrontOf items (commands format (within input taken)) ⊎ ((within input taken ≡ input) × IsFrontOf items (whole format input)) → items ≡ take (length items) (whole format (within input taken))
+of_either format input taken items (inl h) = of_commands format h.0 (within input taken) items h.1
+of_either format input taken items (inr h) = front_is h.1.0 items (whole format (within input taken)) (h.1.1 ∙ ap (λ u. take h.1.0 (whole format u)) (sym h.0))
+
+-- what a session may have processed begins what the part of its input that it took is
+may_front : (format : ℕ) (input : List ℕ) (taken : ℕ) (items : List Item) (reason : reason.Reason) → MayProcess format input taken items reason → items ≡ take (length items) (whole format (within input taken))
+may_front format input taken items Finished h =
+    let same : items ≡ whole format (within input taken) = h.1 ∙ ap (whole format) (sym h.0) in
+    same ∙ sym (take_all (length items) (whole format (within input taken)) (omega (arith, ap length same)))
+may_front format input taken items ReadFault h = of_commands format (length (commands format (within input taken))) (within input taken) items (h ∙ sym (take_all _ (commands format (within input taken)) (omega arith)))
+may_front format input taken items SessionLimit h = of_commands format (length (commands format (within input taken))) (within input taken) items (h ∙ sym (take_all _ (commands format (within input taken)) (omega arith)))
+may_front format input taken items WriteFault h = of_either format input taken items h
+may_front format input taken items Memory h = of_either format input taken items h
+
+pub processed_one : (format : ℕ) (input : List ℕ) (taken : ℕ) (reason : reason.Reason) → AtMostOne (Processed format input taken reason)
+processed_one format input taken reason items others same h other =
+    let text = whole format (within input taken) in
+    may_front format input taken items reason h.items_are ∙ ap (λ n. take n text) same ∙ sym (may_front format input taken others reason other.items_are)
