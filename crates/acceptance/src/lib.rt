@@ -3,12 +3,22 @@
 #![tactic(auto)]
 
 #[cfg(test)]
+mod breaking;
+#[cfg(test)]
+mod dialogue;
+#[cfg(test)]
 mod drawing;
 #[cfg(test)]
 mod dripping;
 #[cfg(test)]
 mod failing;
 #[cfg(test)]
+mod parts;
+#[cfg(test)]
 mod plain;
 #[cfg(test)]
 mod refusals;
+#[cfg(test)]
+mod serving;
+#[cfg(test)]
+mod telling;

@@ -23,9 +23,10 @@ fn each_refusal_of_words_names_what_is_wrong(rt: HostRuntime) -> Result<(), Fail
         ("draw a.las a.las 65", Status::Words { at: 2 }, 2),
         ("paint a.las a.ppm", Status::Words { at: 0 }, 2),
         ("info a.las", Status::Words { at: 2 }, 2),
-        ("info a.las a.txt", Status::NotYet, 12),
+        ("info a.las a.las", Status::Words { at: 2 }, 2),
+        ("info b.las a.txt", Status::OpenFault { at: 1 }, 5),
         ("trial 5 100 2 t", Status::NotYet, 12),
-        ("serve a.las 1 j i o", Status::NotYet, 12),
+        ("serve a.las 1 j i o k p", Status::NotYet, 12),
         (
             "draw a.las a.las 1 ortho 1 1 0 0 0 1 0 0 0 1 0 0 0 1 1 1 0 10 class all show",
             Status::Words { at: 2 },
@@ -68,7 +69,10 @@ fn each_refusal_of_words_names_what_is_wrong(rt: HostRuntime) -> Result<(), Fail
         ),
         (
             "draw short.las a.ppm 1 ortho 1 1 0 0 0 1 0 0 0 1 0 0 0 1 1 1 0 10 class all show",
-            Status::Survey(SurveyFault::Points { need: 395, have: 394 }),
+            Status::Survey(SurveyFault::Points {
+                need: 395,
+                have: 394,
+            }),
             8,
         ),
         (
@@ -115,7 +119,10 @@ fn each_status_has_its_text(rt: HostRuntime) -> Result<(), Fail> {
         (Status::ReadFault { at: 1 }, "cannot read word 1"),
         (Status::TooLong, "survey is too long"),
         (
-            Status::Survey(SurveyFault::Points { need: 395, have: 394 }),
+            Status::Survey(SurveyFault::Points {
+                need: 395,
+                have: 394,
+            }),
             "survey: points need 395 bytes, file has 394",
         ),
         (Status::WriteFault { at: 2 }, "cannot write word 2"),

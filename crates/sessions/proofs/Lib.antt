@@ -1,4 +1,4 @@
-mod Histories
+pub mod Histories
 mod Tales
 mod Replying
 mod Adding

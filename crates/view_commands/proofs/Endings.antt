@@ -1,11 +1,11 @@
--- How a drawing ends where nothing outside fails.
+-- How a command over a survey ends where nothing outside fails.
 use Rattle.std.proofs.Common.{◌≡◌, ℕ, List, Option, Some, IfSome, refl, subst}
 use Rattle.las_survey.specs.Fault.{fault_of}
 use Rattle.las_survey.specs.declared.fault.SurveyFault.{SurveyFault}
 use Rattle.view_meaning.specs.Layout as layout
 use Rattle.view_meaning.specs.Layout.{IsLaid}
 use Rattle.view_commands.specs.declared.status.Status.TheVariants.{Survey}
-use Rattle.view_commands.specs.Draw.{IsSurvey}
+use Rattle.view_commands.specs.Made.{IsSurvey}
 
 -- a file that is laid out has no fault
 pub fault-laid : (b : List ℕ) (fault : layout.Fault) → IsLaid b → layout.fault b ≡ Some fault → ⊥

@@ -2,5 +2,9 @@ pub mod Desk
 pub mod Files
 pub mod Status
 pub mod Told
+pub mod Journal
+pub mod Serve
+pub mod Made
 pub mod Draw
+pub mod Info
 pub mod Run

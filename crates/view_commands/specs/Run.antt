@@ -1,11 +1,14 @@
 -- What the program does for the words of its command line.
-use Rattle.std.specs.Prelude.{◌≡◌, ℕ, Bool, List, Some}
+use Rattle.std.specs.Prelude.{◌≡◌, ℕ, Bool, List, length, Some}
 use Rattle.view_words.specs.CommandLine.{all_rows, badword, IsLine}
 use Rattle.view_words.specs.declared.row.Row as row
 use Rattle.view_words.specs.declared.row.Row.TheVariants.{Draw, Info, Trial, Serve}
 use Rattle.view_commands.specs.Desk.{Said, Untouched}
 use Rattle.view_commands.specs.Draw.{AnswersLine}
+use Rattle.view_commands.specs.Serve.{ServesOne}
+use Rattle.view_commands.specs.Info.{Informs}
 use Rattle.view_commands.specs.Told.{IsNothing}
+use Rattle.view_text.specs.ViewWords.{word_at}
 use Rattle.view_commands.specs.declared.status.Status as status
 use Rattle.view_commands.specs.declared.status.Status.TheVariants.{Words, NotYet}
 use Rattle.view_commands.specs.declared.told.Ended.{Ended}
@@ -21,12 +24,22 @@ pub record RunsDraw (tells : Bool) (old new : Said) (ws : List (List ℕ)) (ende
   pub answers : AnswersLine tells old new ws ended.status
   pub told : IsNothing ended.told
 
+-- a `serve` whose words fit: with one pair it serves it, and with more it is not built yet
+pub record RunsServe (tells : Bool) (old new : Said) (ws : List (List ℕ)) (ended : Ended) : Type 0 where
+  pub one : length ws ≡ 6 → ServesOne tells old new (word_at ws 1) (word_at ws 3) (word_at ws 4) (word_at ws 5) ended
+  pub more : (length ws ≡ 6 → ⊥) → EndsAtOnce old new NotYet ended
+
+-- an `info` whose words fit, which tells nothing beside its status
+pub record RunsInfo (tells : Bool) (old new : Said) (ws : List (List ℕ)) (ended : Ended) : Type 0 where
+  pub answers : Informs tells old new ws ended.status
+  pub told : IsNothing ended.told
+
 -- the command of a row whose words fit
 abbrev pub RunsLine : row.Row → Bool → Said → Said → List (List ℕ) → Ended → Type 0
 RunsLine Draw tells old new ws ended = RunsDraw tells old new ws ended
-RunsLine Info tells old new ws ended = EndsAtOnce old new NotYet ended
+RunsLine Info tells old new ws ended = RunsInfo tells old new ws ended
 RunsLine Trial tells old new ws ended = EndsAtOnce old new NotYet ended
-RunsLine Serve tells old new ws ended = EndsAtOnce old new NotYet ended
+RunsLine Serve tells old new ws ended = RunsServe tells old new ws ended
 
 -- words that are refused are answered by the first refused one, and those that fit a row by its command
 pub record Runs (tells : Bool) (old new : Said) (ws : List (List ℕ)) (ended : Ended) : Type 0 where

@@ -1,10 +1,12 @@
 ghost use Rattle.std.specs.Prelude.{◌≡◌, [], ◌≤◌, length, IfOk};
 ghost use Rattle.view_meaning.specs.Classes.{classes};
 ghost use Rattle.view_meaning.specs.Picture.{picture};
-ghost use Rattle.view_commands.specs.Draw.{Answers, AnswersLine, Draws, WritesPicture, drawn};
+ghost use Rattle.view_commands.specs.Draw.{Answers, AnswersLine, Draws, drawn};
+ghost use Rattle.view_commands.specs.Made.{WritesText};
 ghost use Rattle.view_words.specs.CommandLine.{IsLine, texts};
 
-use crate::files::{SurveyRefusal, WriteRefusal, read_survey, write_file};
+use crate::files::{SurveyRefusal, read_survey};
+use crate::made::{SURVEY, write_text};
 use crate::status::Status;
 use class_pages::base;
 use int_camera::{Camera, CameraNumbers, Kind};
@@ -16,12 +18,6 @@ use view_base::{Bytes, OutOfMemory};
 use view_ends::{Beside, Desk};
 use view_text::ViewSpec;
 use view_words::{Row, is_built, numbers_of, read_row, text_at, workers};
-
-/// The place of the survey's name on the command line.
-const SURVEY: u32 = 1;
-
-/// The place of the picture's name on the command line.
-const OUT: u32 = 2;
 
 /// Writes one picture of a survey. The words are those of the command line, `draw` first; those of
 /// another command are refused.
@@ -100,15 +96,10 @@ fn draw_survey<D: Desk, B: Beside>(
     beside: &B,
 ) -> Status
     requires workers { (1 ≤ workers) × (workers ≤ 64) }
-    ensures { WritesPicture D.tells (record { file = D.file desk.old; reads = D.read_faults desk.old; writes = D.write_faults desk.old; taken = D.taken desk.old; unkept = D.unkept desk.old }) (record { file = D.file desk.new; reads = D.read_faults desk.new; writes = D.write_faults desk.new; taken = D.taken desk.new; unkept = D.unkept desk.new }) out.now (drawn survey camera.now) result }
+    ensures { WritesText D.tells (record { file = D.file desk.old; reads = D.read_faults desk.old; writes = D.write_faults desk.old; taken = D.taken desk.old; unkept = D.unkept desk.old }) (record { file = D.file desk.new; reads = D.read_faults desk.new; writes = D.write_faults desk.new; taken = D.taken desk.new; unkept = D.unkept desk.new }) out.now (drawn survey camera.now) result }
 {
     match picture_of(alloc, survey, camera, workers, beside) {
-        Ok(bytes) => match write_file(desk, out, bytes.as_slice()) {
-            Ok(()) => Status::Done,
-            Err(WriteRefusal::Open) => Status::OpenFault { at: OUT },
-            Err(WriteRefusal::Write) => Status::WriteFault { at: OUT },
-            Err(WriteRefusal::Memory) => Status::Memory,
-        },
+        Ok(bytes) => write_text(desk, out, bytes.as_slice()),
         Err(OutOfMemory) => Status::Memory,
     }
 }

@@ -4,11 +4,17 @@
 
 mod drawing;
 mod files;
+mod informing;
+mod journal;
+mod made;
+mod opening;
 mod running;
+mod serving;
 mod status;
 mod told;
 
 pub use drawing::draw;
+pub use informing::info;
 pub use running::run;
 pub use status::{Status, code};
 pub use told::{Ended, Told};

@@ -1,13 +1,15 @@
 ghost use Rattle.std.specs.Prelude.{◌≤◌, length};
-ghost use Rattle.view_commands.specs.Run.{Runs, RunsLine};
+ghost use Rattle.view_commands.specs.Run.{Runs, RunsLine, RunsServe};
 ghost use Rattle.view_words.specs.CommandLine.{IsLine, least_words, texts};
 
 use crate::drawing::draw_line;
+use crate::informing::info_line;
+use crate::serving::serve;
 use crate::status::Status;
 use crate::told::{Ended, Told};
 use std::alloc::Global;
 use view_ends::{Beside, Desk};
-use view_words::{Row, read_words};
+use view_words::{Row, pair_count, read_words};
 
 /// Runs the command that the words of the command line ask for, without the program's name.
 pub fn run<D: Desk, B: Beside>(alloc: Global, words: &[String], desk: &mut D, beside: &B) -> Ended
@@ -33,8 +35,24 @@ fn run_line<D: Desk, B: Beside>(
 {
     match row {
         Row::Draw => Ended::only(alloc, draw_line(alloc, words, desk, beside)),
-        Row::Info => Ended::only(alloc, Status::NotYet),
+        Row::Info => Ended::only(alloc, info_line(alloc, words, desk)),
         Row::Trial => Ended::only(alloc, Status::NotYet),
-        Row::Serve => Ended::only(alloc, Status::NotYet),
+        Row::Serve => serve_line(alloc, words, desk, beside),
     }
+}
+
+/// Serves the session of a `serve` whose words fit, where it has one pair.
+fn serve_line<D: Desk, B: Beside>(
+    alloc: Global,
+    words: &[String],
+    desk: &mut D,
+    beside: &B,
+) -> Ended
+    requires line { IsLine Row.Serve (texts words.now) }
+    ensures { RunsServe D.tells (record { file = D.file desk.old; reads = D.read_faults desk.old; writes = D.write_faults desk.old; taken = D.taken desk.old; unkept = D.unkept desk.old }) (record { file = D.file desk.new; reads = D.read_faults desk.new; writes = D.write_faults desk.new; taken = D.taken desk.new; unkept = D.unkept desk.new }) (texts words.now) result }
+{
+    if pair_count(words) != 1 {
+        return Ended::only(alloc, Status::NotYet);
+    }
+    serve(alloc, words, desk, beside)
 }

@@ -1,0 +1,11 @@
+//! What a survey is, in words: the header's fields, the box that its records lie in, and how many
+//! records each class has.
+#![tactic(auto)]
+
+mod summary;
+#[cfg(test)]
+mod tests;
+mod text;
+
+pub use summary::Summary;
+pub use text::info_text;

@@ -1,0 +1,19 @@
+-- What an `info` gives, and why it gives up.
+use Rattle.std.specs.Prelude.{◌≡◌, ℕ, Bool, List, [], ◌∷◌, Some}
+use Rattle.survey_info.specs.Text.{info_text}
+use Rattle.view_text.specs.ViewWords.{word_at}
+use Rattle.view_words.specs.CommandLine.{badword, IsLine}
+use Rattle.view_words.specs.declared.row.Row.TheVariants.{Info}
+use Rattle.view_commands.specs.Desk.{Said, Untouched}
+use Rattle.view_commands.specs.Made.{Makes}
+use Rattle.view_commands.specs.declared.status.Status as status
+use Rattle.view_commands.specs.declared.status.Status.TheVariants.{Words}
+
+-- the words of an `info` that fit are answered by the info text of the survey
+abbrev pub Informs : Bool → Said → Said → List (List ℕ) → status.Status → Type 0
+Informs tells old new ws ended = Makes tells old new (word_at ws 1) (word_at ws 2) info_text ended
+
+-- the words of a command line are answered as those of an `info`: by the first that is refused, or else as a line
+pub record AnswersInfo (tells : Bool) (old new : Said) (ws : List (List ℕ)) (ended : status.Status) : Type 0 where
+  pub refused : (at : ℕ) → badword (Info ∷ []) ws ≡ Some at → (ended ≡ Words at) × Untouched old new
+  pub line : IsLine Info ws → Informs tells old new ws ended

@@ -1,0 +1,97 @@
+ghost use Rattle.std.specs.Prelude.{◌≡◌, ◌≢◌, ◌≤◌, IsTrue, IfOk, IfErr, OnOk, OnErr};
+ghost use Rattle.view_ends.specs.Ends.{AllStay, NoneForgotten};
+ghost use Rattle.view_commands.specs.Serve.{MayEmpty, OnlyOpens, AreFresh, OpensEnds, EndsCause, WrittenCause};
+
+use crate::status::Status;
+use view_ends::{Desk, EndFault};
+
+/// The place of the journal's name on the command line.
+pub(crate) const JOURNAL: u32 = 3;
+
+/// The place of the name of the session's input.
+pub(crate) const IN: u32 = 4;
+
+/// The place of the name of the session's output.
+pub(crate) const OUT: u32 = 5;
+
+/// The names of a `serve` with one pair.
+#[derive(Clone, Copy)]
+pub(crate) struct Names<'a> {
+    pub(crate) survey: &'a str,
+    pub(crate) journal: &'a str,
+    pub(crate) input: &'a str,
+    pub(crate) output: &'a str,
+}
+
+/// What a session reads and writes, and the journal's output.
+pub(crate) struct Opened<I, O> {
+    pub(crate) input: I,
+    pub(crate) output: O,
+    pub(crate) journal: O,
+}
+
+/// The outputs of a session and of the journal.
+#[derive(Drop)]
+struct Outputs<O> {
+    output: O,
+    journal: O,
+}
+
+/// Opens the input, the output and the journal, in this order. After a refusal the input is shut
+/// where it was opened, and no output is kept.
+pub(crate) fn open_ends<D: Desk>(
+    desk: &mut D,
+    names: Names,
+) -> Result<Opened<D::In, D::Out>, Status>
+    requires apart { names.journal.now ≢ names.output.now }
+    ensures opened { IfOk result (λ ends. OpensEnds D.tells (record { file = D.file desk.old; reads = D.read_faults desk.old; writes = D.write_faults desk.old; taken = D.taken desk.old; unkept = D.unkept desk.old }) (record { file = D.file desk.new; reads = D.read_faults desk.new; writes = D.write_faults desk.new; taken = D.taken desk.new; unkept = D.unkept desk.new }) names.entry.journal.now names.entry.input.now names.entry.output.now (D.In.left ends.input)) }
+    ensures fresh { IfOk result (λ ends. AreFresh D.tells (D.In.taken ends.input) (D.In.faults ends.input) (D.Out.got ends.output) (D.Out.got ends.journal) (D.Out.faults ends.output) (D.Out.faults ends.journal)) }
+    ensures input_known { OnOk result (D.known desk.new names.entry.input.now) }
+    ensures output_known { OnOk result (D.known desk.new names.entry.output.now) }
+    ensures journal_known { OnOk result (D.known desk.new names.entry.journal.now) }
+    ensures untaken { OnErr result (D.taken desk.new names.entry.input.now ≤ D.taken desk.old names.entry.input.now) }
+    ensures cause { IfErr result (λ status. EndsCause (record { file = D.file desk.old; reads = D.read_faults desk.old; writes = D.write_faults desk.old; taken = D.taken desk.old; unkept = D.unkept desk.old }) (record { file = D.file desk.new; reads = D.read_faults desk.new; writes = D.write_faults desk.new; taken = D.taken desk.new; unkept = D.unkept desk.new }) names.entry.journal.now names.entry.input.now names.entry.output.now status) }
+    ensures files { MayEmpty D.tells (record { file = D.file desk.old; reads = D.read_faults desk.old; writes = D.write_faults desk.old; taken = D.taken desk.old; unkept = D.unkept desk.old }) (record { file = D.file desk.new; reads = D.read_faults desk.new; writes = D.write_faults desk.new; taken = D.taken desk.new; unkept = D.unkept desk.new }) names.entry.journal.now names.entry.output.now }
+{
+    let input = match desk.open_in(names.input) {
+        Ok(input) => input,
+        Err(EndFault::Failed) => return Err(Status::OpenFault { at: IN }),
+        Err(EndFault::Memory) => return Err(Status::Memory),
+    };
+    match open_outputs(desk, names) {
+        Ok(Outputs { output, journal }) => Ok(Opened {
+            input,
+            output,
+            journal,
+        }),
+        Err(status) => {
+            desk.shut(names.input, input);
+            Err(status)
+        }
+    }
+}
+
+/// Opens the output and the journal, in this order. After a refusal neither is kept.
+fn open_outputs<D: Desk>(desk: &mut D, names: Names) -> Result<Outputs<D::Out>, Status>
+    requires apart { names.journal.now ≢ names.output.now }
+    ensures fresh { IfOk result (λ outs. AreFresh D.tells 0 0 (D.Out.got outs.output) (D.Out.got outs.journal) (D.Out.faults outs.output) (D.Out.faults outs.journal)) }
+    ensures output_known { OnOk result (D.known desk.new names.entry.output.now) }
+    ensures journal_known { OnOk result (D.known desk.new names.entry.journal.now) }
+    ensures cause { IfErr result (λ status. WrittenCause (record { file = D.file desk.old; reads = D.read_faults desk.old; writes = D.write_faults desk.old; taken = D.taken desk.old; unkept = D.unkept desk.old }) (record { file = D.file desk.new; reads = D.read_faults desk.new; writes = D.write_faults desk.new; taken = D.taken desk.new; unkept = D.unkept desk.new }) names.entry.journal.now names.entry.output.now status) }
+    ensures files { MayEmpty D.tells (record { file = D.file desk.old; reads = D.read_faults desk.old; writes = D.write_faults desk.old; taken = D.taken desk.old; unkept = D.unkept desk.old }) (record { file = D.file desk.new; reads = D.read_faults desk.new; writes = D.write_faults desk.new; taken = D.taken desk.new; unkept = D.unkept desk.new }) names.entry.journal.now names.entry.output.now }
+    ensures counts { OnlyOpens (record { file = D.file desk.old; reads = D.read_faults desk.old; writes = D.write_faults desk.old; taken = D.taken desk.old; unkept = D.unkept desk.old }) (record { file = D.file desk.new; reads = D.read_faults desk.new; writes = D.write_faults desk.new; taken = D.taken desk.new; unkept = D.unkept desk.new }) }
+    ensures reads { AllStay (D.read_faults desk.old) (D.read_faults desk.new) }
+    ensures taken { AllStay (D.taken desk.old) (D.taken desk.new) }
+    ensures known { NoneForgotten (D.known desk.old) (D.known desk.new) }
+{
+    let output = match desk.open_out(names.output) {
+        Ok(output) => output,
+        Err(EndFault::Failed) => return Err(Status::OpenFault { at: OUT }),
+        Err(EndFault::Memory) => return Err(Status::Memory),
+    };
+    match desk.open_out(names.journal) {
+        Ok(journal) => Ok(Outputs { output, journal }),
+        Err(EndFault::Failed) => Err(Status::OpenFault { at: JOURNAL }),
+        Err(EndFault::Memory) => Err(Status::Memory),
+    }
+}
