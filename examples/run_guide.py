@@ -5,8 +5,8 @@
 
 The commands are the lines that begin with `$ ` in the blocks marked `console`; what stands below a
 command is what it prints, on standard output and standard error together. They run one after
-another in one empty folder, in which the programs of this repository are at hand. Ends with 1
-where a command prints something else.
+another in one empty folder, in which the programs of this repository are at hand. The program is built
+first, where it is missing. Ends with 1 where a command prints something else.
 """
 
 import os
@@ -36,6 +36,10 @@ def steps(text):
 def main():
     with open(os.path.join(ROOT, "docs", "GUIDE.md"), encoding="utf-8") as guide:
         commands = steps(guide.read())
+    # Without words it is refused at once, with 2.
+    built = subprocess.run([os.path.join(ROOT, "hidrevca")], stdout=subprocess.DEVNULL, stderr=subprocess.PIPE)
+    if built.returncode != 2:
+        sys.exit(f"the program can't be run: {built.stderr.decode('utf-8', 'replace')}")
     wrong = 0
     with tempfile.TemporaryDirectory() as folder:
         for name in ("hidrevca", "demo", "demo-out", "examples"):
