@@ -28,8 +28,9 @@ fn ended(alloc: Global, name: &str, call: DeskCall, at: u64) -> Result<(Status, 
 }
 
 /// What is counted of the survey and of the picture.
-fn counts(desk: &MemDesk) -> (u64, u64, u64, u64) {
+fn counts(desk: &MemDesk) -> (u64, u64, u64, u64, u64) {
     (
+        desk.unopened("a.las"),
         desk.read_faults("a.las"),
         desk.taken("a.las"),
         desk.write_faults("a.ppm"),
@@ -41,12 +42,12 @@ fn counts(desk: &MemDesk) -> (u64, u64, u64, u64) {
 fn an_opening_that_fails_leaves_every_file(rt: HostRuntime) -> Result<(), Fail> {
     let (status, desk) = ended(rt.alloc(), "a.las", DeskCall::OpenIn, 0)?;
     assert_eq!(rt; status, Status::OpenFault { at: 1 });
-    assert_eq!(rt; counts(&desk), (1, 0, 0, 0));
+    assert_eq!(rt; counts(&desk), (1, 0, 0, 0, 0));
     assert_eq!(rt; desk.bytes_of("a.ppm"), Some(BEFORE));
 
     let (status, desk) = ended(rt.alloc(), "a.ppm", DeskCall::OpenOut, 0)?;
     assert_eq!(rt; status, Status::OpenFault { at: 2 });
-    assert_eq!(rt; counts(&desk), (0, SURVEY_BYTES, 1, 0));
+    assert_eq!(rt; counts(&desk), (0, 0, SURVEY_BYTES, 1, 0));
     assert_eq!(rt; desk.bytes_of("a.ppm"), Some(BEFORE));
     Ok(())
 }
@@ -56,7 +57,7 @@ fn a_read_that_fails_at_any_place_leaves_every_file(rt: HostRuntime) -> Result<(
     for at in 0..SURVEY_BYTES + 1 {
         let (status, desk) = ended(rt.alloc(), "a.las", DeskCall::Take, at)?;
         assert_eq!(rt; status, Status::ReadFault { at: 1 }, "at {at}");
-        assert_eq!(rt; counts(&desk), (1, at, 0, 0), "at {at}");
+        assert_eq!(rt; counts(&desk), (0, 1, at, 0, 0), "at {at}");
         assert_eq!(rt; desk.bytes_of("a.ppm"), Some(BEFORE), "at {at}");
     }
     Ok(())
@@ -67,7 +68,7 @@ fn a_write_that_fails_at_any_place_leaves_a_front(rt: HostRuntime) -> Result<(),
     for at in 0..PICTURE.len() {
         let (status, desk) = ended(rt.alloc(), "a.ppm", DeskCall::Give, at as u64)?;
         assert_eq!(rt; status, Status::WriteFault { at: 2 }, "at {at}");
-        assert_eq!(rt; counts(&desk), (0, SURVEY_BYTES, 1, 0), "at {at}");
+        assert_eq!(rt; counts(&desk), (0, 0, SURVEY_BYTES, 1, 0), "at {at}");
         assert_eq!(rt; desk.bytes_of("a.ppm"), Some(&PICTURE[..at]), "at {at}");
     }
     Ok(())
@@ -82,7 +83,7 @@ fn calls_that_never_come_fail_nothing(rt: HostRuntime) -> Result<(), Fail> {
     ] {
         let (status, desk) = ended(rt.alloc(), name, call, at)?;
         assert_eq!(rt; status, Status::Done, "{name}");
-        assert_eq!(rt; counts(&desk), (0, SURVEY_BYTES, 0, 0), "{name}");
+        assert_eq!(rt; counts(&desk), (0, 0, SURVEY_BYTES, 0, 0), "{name}");
         assert_eq!(rt; desk.bytes_of("a.ppm"), Some(PICTURE), "{name}");
     }
     Ok(())
@@ -92,6 +93,6 @@ fn calls_that_never_come_fail_nothing(rt: HostRuntime) -> Result<(), Fail> {
 fn a_keeping_that_fails_is_a_write_fault(rt: HostRuntime) -> Result<(), Fail> {
     let (status, desk) = ended(rt.alloc(), "a.ppm", DeskCall::Keep, 0)?;
     assert_eq!(rt; status, Status::WriteFault { at: 2 });
-    assert_eq!(rt; counts(&desk), (0, SURVEY_BYTES, 1, 1));
+    assert_eq!(rt; counts(&desk), (0, 0, SURVEY_BYTES, 1, 1));
     Ok(())
 }

@@ -2,7 +2,7 @@
 use Rattle.std.proofs.Common.{◌≡◌, ℕ, ◌<◌, ◌≤◌, List, refl, ◌∙◌, arith}
 use Rattle.std.proofs.lemmas.Bool.Decides.{nat_tests}
 use Rattle.view_ends.specs.Ends.{Rose}
-use Rattle.view_commands.specs.Desk.{Said}
+use Rattle.view_ends.specs.Desk.{Said}
 use Rattle.view_commands.specs.Journal.{KeptSo, WrittenSo}
 use Rattle.view_commands.specs.Serve.{EndCause}
 use Rattle.sessions.specs.declared.end.Reason as reason

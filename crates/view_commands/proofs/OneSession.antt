@@ -7,7 +7,7 @@ use Rattle.las_survey.specs.declared.loading.TheConstants as load
 use Rattle.view_ends.specs.Ends.{Rose, RoseBy, AllStay, OthersStay, NoneFalls}
 use Rattle.view_meaning.specs.Layout.{IsLaid, fault}
 use Rattle.sessions.specs.declared.end.SessionEnd.{SessionEnd}
-use Rattle.view_commands.specs.Desk.{Said}
+use Rattle.view_ends.specs.Desk.{Said}
 use Rattle.view_commands.specs.Files.{TakenToTheEnd}
 use Rattle.view_commands.specs.Told.{IsNothing}
 use Rattle.view_commands.specs.Serve.{RunsSession, RunsOpened, OpensEnds, ServesSurvey, ServesEnds, Refuses, IsAsWasOrEmpty, EndsCause, Cause, NoneRose}
@@ -57,20 +57,20 @@ survey_served tells old mid new journal input output b left ended (end ∷ []) o
 )
 survey_served tells old mid new journal input output b left ended (end ∷ other ∷ others) opens runs = absurd runs
 
-ends_cause : (old mid new : Said) (survey journal input output : List ℕ) (status : status.Status) → NoneFalls old.reads mid.reads → AllStay old.writes mid.writes → EndsCause mid new journal input output status → Cause old new survey journal input output status
-ends_cause old mid new survey journal input output (OpenFault at) reads writes (inl cause) = inr (inl (cause.0, rose_earlier (old.reads input) (mid.reads input) (new.reads input) (reads input) cause.1))
-ends_cause old mid new survey journal input output (OpenFault at) reads writes (inr (inl cause)) = inr (inr (inl (cause.0, subst (λ (n : ℕ). Rose n (new.writes output)) (writes output) cause.1)))
-ends_cause old mid new survey journal input output (OpenFault at) reads writes (inr (inr cause)) = inr (inr (inr (cause.0, subst (λ (n : ℕ). Rose n (new.writes journal)) (writes journal) cause.1)))
-ends_cause old mid new survey journal input output Memory reads writes cause = tt
-ends_cause old mid new survey journal input output Done reads writes cause = cause
-ends_cause old mid new survey journal input output (Words at) reads writes cause = absurd cause
-ends_cause old mid new survey journal input output (Limit limit) reads writes cause = absurd cause
-ends_cause old mid new survey journal input output (ReadFault at) reads writes cause = absurd cause
-ends_cause old mid new survey journal input output TooLong reads writes cause = absurd cause
-ends_cause old mid new survey journal input output (Survey found) reads writes cause = absurd cause
-ends_cause old mid new survey journal input output (WriteFault at) reads writes cause = absurd cause
-ends_cause old mid new survey journal input output (SessionLimit at) reads writes cause = absurd cause
-ends_cause old mid new survey journal input output NotYet reads writes cause = absurd cause
+ends_cause : (old mid new : Said) (survey journal input output : List ℕ) (status : status.Status) → NoneFalls old.unopened mid.unopened → AllStay old.writes mid.writes → EndsCause mid new journal input output status → Cause old new survey journal input output status
+ends_cause old mid new survey journal input output (OpenFault at) unopened writes (inl cause) = inr (inl (cause.0, rose_earlier (old.unopened input) (mid.unopened input) (new.unopened input) (unopened input) cause.1))
+ends_cause old mid new survey journal input output (OpenFault at) unopened writes (inr (inl cause)) = inr (inr (inl (cause.0, subst (λ (n : ℕ). Rose n (new.writes output)) (writes output) cause.1)))
+ends_cause old mid new survey journal input output (OpenFault at) unopened writes (inr (inr cause)) = inr (inr (inr (cause.0, subst (λ (n : ℕ). Rose n (new.writes journal)) (writes journal) cause.1)))
+ends_cause old mid new survey journal input output Memory unopened writes cause = tt
+ends_cause old mid new survey journal input output Done unopened writes cause = cause
+ends_cause old mid new survey journal input output (Words at) unopened writes cause = absurd cause
+ends_cause old mid new survey journal input output (Limit limit) unopened writes cause = absurd cause
+ends_cause old mid new survey journal input output (ReadFault at) unopened writes cause = absurd cause
+ends_cause old mid new survey journal input output TooLong unopened writes cause = absurd cause
+ends_cause old mid new survey journal input output (Survey found) unopened writes cause = absurd cause
+ends_cause old mid new survey journal input output (WriteFault at) unopened writes cause = absurd cause
+ends_cause old mid new survey journal input output (SessionLimit at) unopened writes cause = absurd cause
+ends_cause old mid new survey journal input output NotYet unopened writes cause = absurd cause
 
 -- a refusal before the session, of a survey that is none, or where nothing outside failed
 told_bytes : (file : Option (List ℕ)) (b c : List ℕ) → file ≡ Some c → IfSome file (λ bytes. bytes ≡ b) → c ≡ b
@@ -83,8 +83,8 @@ told_long file c is long = subst (λ (o : Option (List ℕ)). IfSome o (λ bytes
 pub cause_settled : (old new : Said) (survey journal input output b : List ℕ) (status : status.Status) → Cause old new survey journal input output status → old.file survey ≡ Some b → length b ≤ load.LIMIT → IsLaid b
     → NoneRose old new survey journal input output → status ≡ Memory
 unfolding IsLaid
-cause_settled old new survey journal input output b (OpenFault at) (inl cause) is few laid calm = absurd (calm.survey_read cause.1)
-cause_settled old new survey journal input output b (OpenFault at) (inr (inl cause)) is few laid calm = absurd (calm.input_read cause.1)
+cause_settled old new survey journal input output b (OpenFault at) (inl cause) is few laid calm = absurd (calm.survey_opened cause.1)
+cause_settled old new survey journal input output b (OpenFault at) (inr (inl cause)) is few laid calm = absurd (calm.input_opened cause.1)
 cause_settled old new survey journal input output b (OpenFault at) (inr (inr (inl cause))) is few laid calm = absurd (calm.output_written cause.1)
 cause_settled old new survey journal input output b (OpenFault at) (inr (inr (inr cause))) is few laid calm = absurd (calm.journal_written cause.1)
 cause_settled old new survey journal input output b (ReadFault at) cause is few laid calm = absurd (calm.survey_read cause.1)
@@ -102,10 +102,10 @@ cause_settled old new survey journal input output b NotYet cause is few laid cal
 
 -- the survey was read, and then served
 pub one_served : (tells : Bool) (old mid new : Said) (survey journal input output b : List ℕ) (ended : told.Ended) (ends : List SessionEnd) → survey ≢ input → TakenToTheEnd old mid survey b → (IsTrue tells → IsSome (old.file survey)) → IsLaid b
-    → AllStay old.file mid.file → AllStay old.writes mid.writes → AllStay old.unkept mid.unkept → NoneFalls old.reads mid.reads → OthersStay old.taken mid.taken survey
+    → AllStay old.file mid.file → AllStay old.writes mid.writes → AllStay old.unkept mid.unkept → NoneFalls old.unopened mid.unopened → NoneFalls old.reads mid.reads → OthersStay old.taken mid.taken survey
     → ServesSurvey tells mid new journal input output b ended ends → ServesEnds tells old new survey journal input output ended ends
-one_served tells old mid new survey journal input output b ended [] apart read there laid files writes unkept reads taken served =
-    let cause = ends_cause old mid new survey journal input output ended.status reads writes served.1 in
+one_served tells old mid new survey journal input output b ended [] apart read there laid files writes unkept unopened reads taken served =
+    let cause = ends_cause old mid new survey journal input output ended.status unopened writes served.1 in
     record {
       nothing = served.0;
       cause = cause;
@@ -115,7 +115,7 @@ one_served tells old mid new survey journal input output b ended [] apart read t
         files = λ other no yes. served.2.files other no yes ∙ files other;
       };
       untaken = at_most_same _ _ _ (taken input (λ same. apart (sym same))) served.3;
-      unserved = λ tell c is calm.
+      unserved = λ tell c is opened calm.
           let same : c ≡ b = told_bytes (old.file survey) b c is read.all in
           let sizes : length c ≡ length b = ap (λ (l : List ℕ). length l) same in
           let few = read.few in
@@ -125,7 +125,7 @@ one_served tells old mid new survey journal input output b ended [] apart read t
           };
       settled = λ tell c is short fine calm. cause_settled old new survey journal input output c ended.status cause is short fine calm;
     }
-one_served tells old mid new survey journal input output b ended (end ∷ []) apart read there laid files writes unkept reads taken served =
+one_served tells old mid new survey journal input output b ended (end ∷ []) apart read there laid files writes unkept unopened reads taken served =
     let no_falls : NoneFalls old.writes mid.writes = λ name. omega (arith, writes name) in
     let earlier = runs_earlier tells old mid new journal input output b (mid.file input) end ended reads no_falls unkept (taken input (λ same. apart (sym same))) (λ other no yes. files other) served.2 in
     let runs : RunsSession tells old new journal input output b (old.file input) end ended = subst (λ (o : Option (List ℕ)). RunsSession tells old new journal input output b o end ended) (files input) earlier in
@@ -143,7 +143,7 @@ one_served tells old mid new survey journal input output b ended (end ∷ []) ap
       limit = runs_limit tells old new journal input output b (old.file input) end ended runs;
       settled = λ tell i is few calm. runs_settled tells old new survey journal input output b i (old.file input) end ended runs is few calm;
     }
-one_served tells old mid new survey journal input output b ended (end ∷ other ∷ others) apart read there laid files writes unkept reads taken served = absurd served
+one_served tells old mid new survey journal input output b ended (end ∷ other ∷ others) apart read there laid files writes unkept unopened reads taken served = absurd served
 
 -- the survey is none
 pub no_survey : (tells : Bool) (old new : Said) (survey journal input output b : List ℕ) (found : SurveyFault) (ended : told.Ended) (ends : List SessionEnd) → survey ≢ input → ends ≡ [] → IsNothing ended.told
@@ -159,7 +159,7 @@ no_survey tells old new survey journal input output b found ended ends apart non
         files = λ other no yes. files other;
       };
       untaken = at_most _ _ (sym (taken input (λ same. apart (sym same))));
-      unserved = λ tell c is calm.
+      unserved = λ tell c is opened calm.
           let same : c ≡ b = told_bytes (old.file survey) b c is read.all in
           let sizes : length c ≡ length b = ap (λ (l : List ℕ). length l) same in
           let few = read.few in

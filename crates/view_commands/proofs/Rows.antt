@@ -3,7 +3,7 @@ use Rattle.std.proofs.Common.{◌≡◌, ℕ, List, Bool, None, subst}
 use Rattle.view_words.specs.CommandLine.{IsLine, all_rows, badword}
 use Rattle.view_words.specs.declared.row.Row.{Row}
 use Rattle.view_words.proofs.Refusals.{row_in-line}
-use Rattle.view_commands.specs.Desk.{Said}
+use Rattle.view_ends.specs.Desk.{Said}
 use Rattle.view_commands.specs.Run.{Runs, RunsLine}
 use Rattle.view_commands.specs.declared.told.Ended.{Ended}
 

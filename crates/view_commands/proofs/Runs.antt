@@ -9,7 +9,7 @@ use Rattle.sessions.specs.declared.end.Reason as reason
 use Rattle.sessions.specs.declared.end.Reason.TheVariants.{Finished, ReadFault, SessionLimit, WriteFault, Memory}
 use Rattle.sessions.specs.Lines.{Item}
 use Rattle.sessions.specs.Session.{LIMIT, Processed}
-use Rattle.view_commands.specs.Desk.{Said}
+use Rattle.view_ends.specs.Desk.{Said}
 use Rattle.view_commands.specs.Journal.{KeptSo, WrittenSo}
 use Rattle.view_commands.specs.Serve.{RunsSession, OtherFilesStay, EndCause, NoneRose, status_of}
 use Rattle.view_commands.specs.declared.status.Status as status

@@ -3,7 +3,7 @@ use Rattle.std.proofs.Common.{◌≡◌, ℕ, ◌≤◌, List, [], ◌++◌, len
 use Rattle.las_survey.specs.declared.loading.TheConstants.{LIMIT}
 use Rattle.las_survey.specs.Loading.{TookAll}
 use Rattle.view_ends.specs.Ends.{RoseBy, Leaves, Ended, GainsPart}
-use Rattle.view_commands.specs.Desk.{Said}
+use Rattle.view_ends.specs.Desk.{Said}
 use Rattle.view_commands.specs.Files.{TakenToTheEnd, HoldsFront}
 
 all_of : (left new : Option (List ℕ)) (bytes : List ℕ) → Leaves left bytes new → Ended new → IfSome left (λ file. file ≡ bytes)

@@ -8,7 +8,7 @@ use Rattle.view_meaning.specs.Picture.{by_class, picture}
 use Rattle.view_text.specs.ViewWords.{word_at, camera_numbers, is_built}
 use Rattle.view_words.specs.CommandLine.{badword, IsLine, view_words}
 use Rattle.view_words.specs.declared.row.Row.TheVariants.{Draw}
-use Rattle.view_commands.specs.Desk.{Said, Untouched}
+use Rattle.view_ends.specs.Desk.{Said, Untouched}
 use Rattle.view_commands.specs.Made.{Makes}
 use Rattle.view_commands.specs.declared.status.Status as status
 use Rattle.view_commands.specs.declared.status.Status.TheVariants.{Words, Limit, NotYet}

@@ -6,7 +6,7 @@ use Rattle.las_survey.specs.declared.loading.TheConstants.{LIMIT}
 use Rattle.view_ends.specs.Ends.{Rose, RoseBy, AllStay, OthersStay, NoneFalls}
 use Rattle.view_meaning.specs.Layout as layout
 use Rattle.view_meaning.specs.Layout.{IsLaid}
-use Rattle.view_commands.specs.Desk.{Said}
+use Rattle.view_ends.specs.Desk.{Said, Untouched}
 use Rattle.view_commands.specs.declared.files.SurveyRefusal as refusal
 use Rattle.view_commands.specs.declared.files.SurveyRefusal.TheVariants as survey
 use Rattle.view_commands.specs.declared.files.WriteRefusal.TheVariants as write
@@ -23,17 +23,17 @@ pub record ReadsSurvey (tells : Bool) (old new : Said) (name : List ℕ) (result
   pub bytes : IfOk result (λ b. TakenToTheEnd old new name b)
   pub there : IsTrue tells → OnOk result (IsSome (old.file name))
   pub laid : IfOk result IsLaid
-  pub open_fault : IsErrOf result survey.Open → Rose (old.reads name) (new.reads name)
+  pub open_fault : IsErrOf result survey.Open → Rose (old.unopened name) (new.unopened name)
   pub read_fault : IsErrOf result survey.Read → Rose (old.reads name) (new.reads name)
   pub too_long : IsErrOf result survey.TooLong → RoseBy (LIMIT + 1) (old.taken name) (new.taken name)
   pub too_many : IsErrOf result survey.TooLong → IfSome (old.file name) (λ b. LIMIT < length b)
   pub survey : (fault : SurveyFault) → IsErrOf result (survey.Survey fault) → (b : List ℕ) × TakenToTheEnd old new name b × (layout.fault b ≡ Some (fault_of fault))
-  pub files : AllStay old.file new.file
-  pub writes : AllStay old.writes new.writes
-  pub unkept : AllStay old.unkept new.unkept
+  pub unopened : OthersStay old.unopened new.unopened name
+  pub unopened_later : NoneFalls old.unopened new.unopened
   pub reads : OthersStay old.reads new.reads name
   pub later : NoneFalls old.reads new.reads
   pub taken : OthersStay old.taken new.taken name
+  pub rest : Untouched (record old { unopened = new.unopened; reads = new.reads; taken = new.taken }) new
 
 -- a name's file is some front of these bytes
 abbrev pub HoldsFront : Said → List ℕ → List ℕ → Type 0
@@ -51,5 +51,4 @@ pub record Writes (tells : Bool) (old new : Said) (name bytes : List ℕ) (resul
   pub writes : OthersStay old.writes new.writes name
   pub later : NoneFalls old.writes new.writes
   pub unkept : OthersStay old.unkept new.unkept name
-  pub reads : AllStay old.reads new.reads
-  pub taken : AllStay old.taken new.taken
+  pub rest : Untouched (record old { file = new.file; writes = new.writes; unkept = new.unkept }) new

@@ -4,7 +4,7 @@ use Rattle.survey_info.specs.Text.{info_text}
 use Rattle.view_text.specs.ViewWords.{word_at}
 use Rattle.view_words.specs.CommandLine.{badword, IsLine}
 use Rattle.view_words.specs.declared.row.Row.TheVariants.{Info}
-use Rattle.view_commands.specs.Desk.{Said, Untouched}
+use Rattle.view_ends.specs.Desk.{Said, Untouched}
 use Rattle.view_commands.specs.Made.{Makes}
 use Rattle.view_commands.specs.declared.status.Status as status
 use Rattle.view_commands.specs.declared.status.Status.TheVariants.{Words}

@@ -8,7 +8,7 @@ use Rattle.view_ends.specs.declared.fault.EndFault.TheVariants as fault
 use Rattle.view_meaning.specs.Classes as meaning
 use Rattle.sessions.specs.declared.end.Reason as reason
 use Rattle.sessions.specs.declared.end.Reason.TheVariants.{Finished, ReadFault, SessionLimit, WriteFault, Memory}
-use Rattle.view_commands.specs.Desk.{Said}
+use Rattle.view_ends.specs.Desk.{Said}
 use Rattle.view_commands.specs.Files.{HoldsFront}
 
 -- the canonical line and LF of each of these edits, in order

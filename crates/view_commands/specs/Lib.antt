@@ -1,4 +1,3 @@
-pub mod Desk
 pub mod Files
 pub mod Status
 pub mod Told

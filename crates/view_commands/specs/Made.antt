@@ -7,7 +7,7 @@ use Rattle.las_survey.specs.declared.loading.TheConstants.{LIMIT}
 use Rattle.view_ends.specs.Ends.{Rose, RoseBy, AllStay, OthersStay}
 use Rattle.view_meaning.specs.Layout as layout
 use Rattle.view_meaning.specs.Layout.{IsLaid}
-use Rattle.view_commands.specs.Desk.{Said}
+use Rattle.view_ends.specs.Desk.{Said, Untouched}
 use Rattle.view_commands.specs.Files.{TakenToTheEnd, HoldsFront}
 use Rattle.view_commands.specs.declared.status.Status as status
 use Rattle.view_commands.specs.declared.status.Status.TheVariants.{Done, Words, Limit, OpenFault, ReadFault, TooLong, Survey, WriteFault, SessionLimit, Memory, NotYet}
@@ -31,8 +31,7 @@ pub record WritesText (tells : Bool) (old new : Said) (out bytes : List ℕ) (en
   pub front : ended ≡ WriteFault 2 → IsTrue tells → (Rose (old.unkept out) (new.unkept out) → ⊥) → HoldsFront new out bytes
   pub memory : ended ≡ Memory → IsTrue tells → (Rose (old.unkept out) (new.unkept out) → ⊥) → AllStay old.file new.file ⊎ HoldsFront new out bytes
   pub others : OthersStay old.file new.file out
-  pub reads : AllStay old.reads new.reads
-  pub taken : AllStay old.taken new.taken
+  pub rest : Untouched (record old { file = new.file; writes = new.writes; unkept = new.unkept }) new
 
 -- what a command makes of the survey of one name and writes into the file of another: how it ended, and what
 -- stands then. `text` is what it makes of a survey's bytes, and `tells` says whether the desk tells what its
@@ -52,11 +51,11 @@ pub record Makes (tells : Bool) (old new : Said) (survey out : List ℕ) (text :
   pub session_limit : (at : ℕ) → ended ≢ SessionLimit at
   pub not_yet : ended ≢ NotYet
   pub open_fault : (at : ℕ) → ended ≡ OpenFault at
-      → ((at ≡ 1) × Rose (old.reads survey) (new.reads survey)) ⊎ ((at ≡ 2) × Rose (old.writes out) (new.writes out))
+      → ((at ≡ 1) × Rose (old.unopened survey) (new.unopened survey)) ⊎ ((at ≡ 2) × Rose (old.writes out) (new.writes out))
   pub read_fault : (at : ℕ) → ended ≡ ReadFault at → (at ≡ 1) × Rose (old.reads survey) (new.reads survey)
   pub too_long : ended ≡ TooLong → RoseBy (LIMIT + 1) (old.taken survey) (new.taken survey)
   pub not_laid : (fault : SurveyFault) → ended ≡ Survey fault → (b : List ℕ) × TakenToTheEnd old new survey b × (layout.fault b ≡ Some (fault_of fault))
   pub write_fault : (at : ℕ) → ended ≡ WriteFault at → (at ≡ 2) × Rose (old.writes out) (new.writes out)
   -- and how it ends where nothing outside failed
-  pub settled : IsTrue tells → (b : List ℕ) → old.file survey ≡ Some b → (Rose (old.reads survey) (new.reads survey) → ⊥)
-      → (Rose (old.writes out) (new.writes out) → ⊥) → Ends b ended
+  pub settled : IsTrue tells → (b : List ℕ) → old.file survey ≡ Some b → (Rose (old.unopened survey) (new.unopened survey) → ⊥)
+      → (Rose (old.reads survey) (new.reads survey) → ⊥) → (Rose (old.writes out) (new.writes out) → ⊥) → Ends b ended

@@ -3,7 +3,7 @@ use Rattle.std.specs.Prelude.{◌≡◌, ℕ, Bool, List, length, Some}
 use Rattle.view_words.specs.CommandLine.{all_rows, badword, IsLine}
 use Rattle.view_words.specs.declared.row.Row as row
 use Rattle.view_words.specs.declared.row.Row.TheVariants.{Draw, Info, Trial, Serve}
-use Rattle.view_commands.specs.Desk.{Said, Untouched}
+use Rattle.view_ends.specs.Desk.{Said, Untouched}
 use Rattle.view_commands.specs.Draw.{AnswersLine}
 use Rattle.view_commands.specs.Serve.{ServesOne}
 use Rattle.view_commands.specs.Info.{Informs}

@@ -12,7 +12,7 @@ use Rattle.sessions.specs.declared.history.Entry.{Entry}
 use Rattle.sessions.specs.Histories.{journal, IsLegal, IsGivenBack, held}
 use Rattle.sessions.specs.Session as session
 use Rattle.sessions.specs.Session.{Served}
-use Rattle.view_commands.specs.Desk.{Said}
+use Rattle.view_ends.specs.Desk.{Said}
 use Rattle.view_commands.specs.Files.{TakenToTheEnd, HoldsFront}
 use Rattle.view_commands.specs.Told.{IsNothing}
 use Rattle.view_commands.specs.Journal.{journal_text, KeptSo, WrittenSo}
@@ -55,6 +55,7 @@ pub record MayEmpty (tells : Bool) (old new : Said) (journal output : List ℕ) 
 
 -- the counts of faults after files were opened: none fell, and nothing was kept
 pub record OnlyOpens (old new : Said) : Type 0 where
+  pub unopened : NoneFalls old.unopened new.unopened
   pub reads : NoneFalls old.reads new.reads
   pub writes : NoneFalls old.writes new.writes
   pub unkept : AllStay old.unkept new.unkept
@@ -79,7 +80,7 @@ pub record OpensEnds (tells : Bool) (old new : Said) (journal input output : Lis
 -- the cause of a refusal to open an input and two outputs
 abbrev pub EndsCause : Said → Said → List ℕ → List ℕ → List ℕ → status.Status → Type 0
 EndsCause old new journal input output (OpenFault at) =
-    ((at ≡ 4) × Rose (old.reads input) (new.reads input))
+    ((at ≡ 4) × Rose (old.unopened input) (new.unopened input))
     ⊎ ((at ≡ 5) × Rose (old.writes output) (new.writes output))
     ⊎ ((at ≡ 3) × Rose (old.writes journal) (new.writes journal))
 EndsCause old new journal input output Memory = Unit {0}
@@ -96,8 +97,8 @@ WrittenCause old new journal output _ = ⊥
 -- the cause of a refusal before the session
 abbrev pub Cause : Said → Said → List ℕ → List ℕ → List ℕ → List ℕ → status.Status → Type 0
 Cause old new survey journal input output (OpenFault at) =
-    ((at ≡ 1) × Rose (old.reads survey) (new.reads survey))
-    ⊎ ((at ≡ 4) × Rose (old.reads input) (new.reads input))
+    ((at ≡ 1) × Rose (old.unopened survey) (new.unopened survey))
+    ⊎ ((at ≡ 4) × Rose (old.unopened input) (new.unopened input))
     ⊎ ((at ≡ 5) × Rose (old.writes output) (new.writes output))
     ⊎ ((at ≡ 3) × Rose (old.writes journal) (new.writes journal))
 Cause old new survey journal input output (ReadFault at) = (at ≡ 1) × Rose (old.reads survey) (new.reads survey)
@@ -116,7 +117,9 @@ pub record EndsUnserved (b : List ℕ) (ended : status.Status) : Type 0 where
 
 -- none of the counts of this line's names rose
 pub record NoneRose (old new : Said) (survey journal input output : List ℕ) : Type 0 where
+  pub survey_opened : Rose (old.unopened survey) (new.unopened survey) → ⊥
   pub survey_read : Rose (old.reads survey) (new.reads survey) → ⊥
+  pub input_opened : Rose (old.unopened input) (new.unopened input) → ⊥
   pub input_read : Rose (old.reads input) (new.reads input) → ⊥
   pub output_written : Rose (old.writes output) (new.writes output) → ⊥
   pub journal_written : Rose (old.writes journal) (new.writes journal) → ⊥
@@ -129,7 +132,7 @@ pub record Refuses (tells : Bool) (old new : Said) (survey journal input output 
   -- nothing was taken of the input
   pub untaken : new.taken input ≤ old.taken input
   -- and how it ends where nothing outside failed
-  pub unserved : IsTrue tells → (b : List ℕ) → old.file survey ≡ Some b → (Rose (old.reads survey) (new.reads survey) → ⊥) → EndsUnserved b ended.status
+  pub unserved : IsTrue tells → (b : List ℕ) → old.file survey ≡ Some b → (Rose (old.unopened survey) (new.unopened survey) → ⊥) → (Rose (old.reads survey) (new.reads survey) → ⊥) → EndsUnserved b ended.status
   pub settled : IsTrue tells → (b : List ℕ) → old.file survey ≡ Some b → length b ≤ LIMIT → IsLaid b
       → NoneRose old new survey journal input output → ended.status ≡ Memory
 

@@ -25,7 +25,7 @@ use view_words::{Row, is_built, numbers_of, read_row, text_at, workers};
 /// The picture is whole in memory before its file is opened, so no refusal before that touches a
 /// file. How many workers draw it changes no byte.
 pub fn draw<D: Desk, B: Beside>(alloc: Global, words: &[String], desk: &mut D, beside: &B) -> Status
-    ensures { Answers D.tells (record { file = D.file desk.old; reads = D.read_faults desk.old; writes = D.write_faults desk.old; taken = D.taken desk.old; unkept = D.unkept desk.old }) (record { file = D.file desk.new; reads = D.read_faults desk.new; writes = D.write_faults desk.new; taken = D.taken desk.new; unkept = D.unkept desk.new }) (texts words.now) result }
+    ensures { Answers D.tells (D.says desk.old) (D.says desk.new) (texts words.now) result }
 {
     match read_row(Row::Draw, words) {
         Ok(()) => draw_line(alloc, words, desk, beside),
@@ -42,7 +42,7 @@ pub(crate) fn draw_line<D: Desk, B: Beside>(
 ) -> Status
     requires line { IsLine Row.Draw (texts words.now) }
     requires long { 26 ≤ length words.now }
-    ensures { AnswersLine D.tells (record { file = D.file desk.old; reads = D.read_faults desk.old; writes = D.write_faults desk.old; taken = D.taken desk.old; unkept = D.unkept desk.old }) (record { file = D.file desk.new; reads = D.read_faults desk.new; writes = D.write_faults desk.new; taken = D.taken desk.new; unkept = D.unkept desk.new }) (texts words.now) result }
+    ensures { AnswersLine D.tells (D.says desk.old) (D.says desk.new) (texts words.now) result }
 {
     if !is_built(words) {
         return Status::NotYet;
@@ -71,7 +71,7 @@ fn draw_file<D: Desk, B: Beside>(
     beside: &B,
 ) -> Status
     requires workers { (1 ≤ workers) × (workers ≤ 64) }
-    ensures { Draws D.tells (record { file = D.file desk.old; reads = D.read_faults desk.old; writes = D.write_faults desk.old; taken = D.taken desk.old; unkept = D.unkept desk.old }) (record { file = D.file desk.new; reads = D.read_faults desk.new; writes = D.write_faults desk.new; taken = D.taken desk.new; unkept = D.unkept desk.new }) name.now out.now camera.now result }
+    ensures { Draws D.tells (D.says desk.old) (D.says desk.new) name.now out.now camera.now result }
 {
     match read_survey(alloc, desk, name) {
         Ok(survey) => draw_survey(alloc, survey, out, camera, workers, desk, beside),
@@ -96,7 +96,7 @@ fn draw_survey<D: Desk, B: Beside>(
     beside: &B,
 ) -> Status
     requires workers { (1 ≤ workers) × (workers ≤ 64) }
-    ensures { WritesText D.tells (record { file = D.file desk.old; reads = D.read_faults desk.old; writes = D.write_faults desk.old; taken = D.taken desk.old; unkept = D.unkept desk.old }) (record { file = D.file desk.new; reads = D.read_faults desk.new; writes = D.write_faults desk.new; taken = D.taken desk.new; unkept = D.unkept desk.new }) out.now (drawn survey camera.now) result }
+    ensures { WritesText D.tells (D.says desk.old) (D.says desk.new) out.now (drawn survey camera.now) result }
 {
     match picture_of(alloc, survey, camera, workers, beside) {
         Ok(bytes) => write_text(desk, out, bytes.as_slice()),

@@ -36,7 +36,7 @@ pub(crate) fn read_survey<D: Desk>(
     desk: &mut D,
     name: &str,
 ) -> Result<Survey, SurveyRefusal>
-    ensures { ReadsSurvey D.tells (record { file = D.file desk.old; reads = D.read_faults desk.old; writes = D.write_faults desk.old; taken = D.taken desk.old; unkept = D.unkept desk.old }) (record { file = D.file desk.new; reads = D.read_faults desk.new; writes = D.write_faults desk.new; taken = D.taken desk.new; unkept = D.unkept desk.new }) name.now result }
+    ensures { ReadsSurvey D.tells (D.says desk.old) (D.says desk.new) name.now result }
 {
     let mut input = match desk.open_in(name) {
         Ok(input) => input,
@@ -62,7 +62,7 @@ pub(crate) fn write_file<D: Desk>(
     name: &str,
     bytes: &[u8],
 ) -> Result<(), WriteRefusal>
-    ensures { Writes D.tells (record { file = D.file desk.old; reads = D.read_faults desk.old; writes = D.write_faults desk.old; taken = D.taken desk.old; unkept = D.unkept desk.old }) (record { file = D.file desk.new; reads = D.read_faults desk.new; writes = D.write_faults desk.new; taken = D.taken desk.new; unkept = D.unkept desk.new }) name.now bytes.now result }
+    ensures { Writes D.tells (D.says desk.old) (D.says desk.new) name.now bytes.now result }
 {
     let mut out = match desk.open_out(name) {
         Ok(out) => out,

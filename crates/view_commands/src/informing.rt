@@ -19,7 +19,7 @@ use view_words::{Row, read_row, text_at};
 ///
 /// The text is whole in memory before its file is opened, so no refusal before that touches a file.
 pub fn info<D: Desk>(alloc: Global, words: &[String], desk: &mut D) -> Status
-    ensures { AnswersInfo D.tells (record { file = D.file desk.old; reads = D.read_faults desk.old; writes = D.write_faults desk.old; taken = D.taken desk.old; unkept = D.unkept desk.old }) (record { file = D.file desk.new; reads = D.read_faults desk.new; writes = D.write_faults desk.new; taken = D.taken desk.new; unkept = D.unkept desk.new }) (texts words.now) result }
+    ensures { AnswersInfo D.tells (D.says desk.old) (D.says desk.new) (texts words.now) result }
 {
     match read_row(Row::Info, words) {
         Ok(()) => info_line(alloc, words, desk),
@@ -31,14 +31,14 @@ pub fn info<D: Desk>(alloc: Global, words: &[String], desk: &mut D) -> Status
 pub(crate) fn info_line<D: Desk>(alloc: Global, words: &[String], desk: &mut D) -> Status
     requires line { IsLine Row.Info (texts words.now) }
     requires long { 3 ≤ length words.now }
-    ensures { Informs D.tells (record { file = D.file desk.old; reads = D.read_faults desk.old; writes = D.write_faults desk.old; taken = D.taken desk.old; unkept = D.unkept desk.old }) (record { file = D.file desk.new; reads = D.read_faults desk.new; writes = D.write_faults desk.new; taken = D.taken desk.new; unkept = D.unkept desk.new }) (texts words.now) result }
+    ensures { Informs D.tells (D.says desk.old) (D.says desk.new) (texts words.now) result }
 {
     info_file(alloc, text_at(words, 1), text_at(words, 2), desk)
 }
 
 /// Writes the info text of the survey of one name into the file of another.
 fn info_file<D: Desk>(alloc: Global, name: &str, out: &str, desk: &mut D) -> Status
-    ensures { Makes D.tells (record { file = D.file desk.old; reads = D.read_faults desk.old; writes = D.write_faults desk.old; taken = D.taken desk.old; unkept = D.unkept desk.old }) (record { file = D.file desk.new; reads = D.read_faults desk.new; writes = D.write_faults desk.new; taken = D.taken desk.new; unkept = D.unkept desk.new }) name.now out.now told.info_text result }
+    ensures { Makes D.tells (D.says desk.old) (D.says desk.new) name.now out.now told.info_text result }
 {
     match read_survey(alloc, desk, name) {
         Ok(survey) => info_survey(alloc, &survey, out, desk),
@@ -54,7 +54,7 @@ fn info_file<D: Desk>(alloc: Global, name: &str, out: &str, desk: &mut D) -> Sta
 
 /// Writes the info text of a survey into a file.
 fn info_survey<D: Desk>(alloc: Global, survey: &Survey, out: &str, desk: &mut D) -> Status
-    ensures { WritesText D.tells (record { file = D.file desk.old; reads = D.read_faults desk.old; writes = D.write_faults desk.old; taken = D.taken desk.old; unkept = D.unkept desk.old }) (record { file = D.file desk.new; reads = D.read_faults desk.new; writes = D.write_faults desk.new; taken = D.taken desk.new; unkept = D.unkept desk.new }) out.now (told.info_text survey.now) result }
+    ensures { WritesText D.tells (D.says desk.old) (D.says desk.new) out.now (told.info_text survey.now) result }
 {
     match text_of(alloc, survey) {
         Ok(bytes) => write_text(desk, out, bytes.as_slice()),

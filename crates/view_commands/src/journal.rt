@@ -1,6 +1,7 @@
 ghost use Rattle.std.specs.Prelude.{◌≡◌, ◌++◌, [], ◌∷◌, Some, IsTrue, IfOk, OnOk};
 ghost use Rattle.sessions.specs.Histories.{journal, edit_in};
 ghost use Rattle.sessions.specs.Listening as listening;
+ghost use Rattle.view_ends.specs.Desk.{IsKnown};
 ghost use Rattle.view_commands.specs.Journal.{journal_text, Gives, WritesJournal};
 
 use edit_ops::{Edit, edit_text};
@@ -18,10 +19,10 @@ pub(crate) fn write_journal<D: Desk>(
     mut out: D::Out,
     history: &[Entry],
 ) -> Reason
-    requires known { D.known desk.old name.now }
+    requires known { IsKnown (D.says desk.old) name.now }
     requires empty { IsTrue D.tells → D.Out.got out ≡ Some [] }
     requires faultless { D.Out.faults out ≡ 0 }
-    ensures { WritesJournal D.tells (record { file = D.file desk.old; reads = D.read_faults desk.old; writes = D.write_faults desk.old; taken = D.taken desk.old; unkept = D.unkept desk.old }) (record { file = D.file desk.new; reads = D.read_faults desk.new; writes = D.write_faults desk.new; taken = D.taken desk.new; unkept = D.unkept desk.new }) name.now (journal_text (journal history.now)) result }
+    ensures { WritesJournal D.tells (D.says desk.old) (D.says desk.new) name.now (journal_text (journal history.now)) result }
 {
     let given = give_journal(alloc, &mut out, history);
     let kept = desk.keep(name, out);

@@ -12,7 +12,7 @@ pub(crate) const OUT: u32 = 2;
 
 /// Writes the whole text that a command made of a survey.
 pub(crate) fn write_text<D: Desk>(desk: &mut D, out: &str, bytes: &[u8]) -> Status
-    ensures { WritesText D.tells (record { file = D.file desk.old; reads = D.read_faults desk.old; writes = D.write_faults desk.old; taken = D.taken desk.old; unkept = D.unkept desk.old }) (record { file = D.file desk.new; reads = D.read_faults desk.new; writes = D.write_faults desk.new; taken = D.taken desk.new; unkept = D.unkept desk.new }) out.now bytes.now result }
+    ensures { WritesText D.tells (D.says desk.old) (D.says desk.new) out.now bytes.now result }
 {
     match write_file(desk, out, bytes) {
         Ok(()) => Status::Done,

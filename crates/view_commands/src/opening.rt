@@ -1,5 +1,6 @@
 ghost use Rattle.std.specs.Prelude.{◌≡◌, ◌≢◌, ◌≤◌, IsTrue, IfOk, IfErr, OnOk, OnErr};
 ghost use Rattle.view_ends.specs.Ends.{AllStay, NoneForgotten};
+ghost use Rattle.view_ends.specs.Desk.{IsKnown};
 ghost use Rattle.view_commands.specs.Serve.{MayEmpty, OnlyOpens, AreFresh, OpensEnds, EndsCause, WrittenCause};
 
 use crate::status::Status;
@@ -44,14 +45,14 @@ pub(crate) fn open_ends<D: Desk>(
     names: Names,
 ) -> Result<Opened<D::In, D::Out>, Status>
     requires apart { names.journal.now ≢ names.output.now }
-    ensures opened { IfOk result (λ ends. OpensEnds D.tells (record { file = D.file desk.old; reads = D.read_faults desk.old; writes = D.write_faults desk.old; taken = D.taken desk.old; unkept = D.unkept desk.old }) (record { file = D.file desk.new; reads = D.read_faults desk.new; writes = D.write_faults desk.new; taken = D.taken desk.new; unkept = D.unkept desk.new }) names.entry.journal.now names.entry.input.now names.entry.output.now (D.In.left ends.input)) }
+    ensures opened { IfOk result (λ ends. OpensEnds D.tells (D.says desk.old) (D.says desk.new) names.entry.journal.now names.entry.input.now names.entry.output.now (D.In.left ends.input)) }
     ensures fresh { IfOk result (λ ends. AreFresh D.tells (D.In.taken ends.input) (D.In.faults ends.input) (D.Out.got ends.output) (D.Out.got ends.journal) (D.Out.faults ends.output) (D.Out.faults ends.journal)) }
-    ensures input_known { OnOk result (D.known desk.new names.entry.input.now) }
-    ensures output_known { OnOk result (D.known desk.new names.entry.output.now) }
-    ensures journal_known { OnOk result (D.known desk.new names.entry.journal.now) }
-    ensures untaken { OnErr result (D.taken desk.new names.entry.input.now ≤ D.taken desk.old names.entry.input.now) }
-    ensures cause { IfErr result (λ status. EndsCause (record { file = D.file desk.old; reads = D.read_faults desk.old; writes = D.write_faults desk.old; taken = D.taken desk.old; unkept = D.unkept desk.old }) (record { file = D.file desk.new; reads = D.read_faults desk.new; writes = D.write_faults desk.new; taken = D.taken desk.new; unkept = D.unkept desk.new }) names.entry.journal.now names.entry.input.now names.entry.output.now status) }
-    ensures files { MayEmpty D.tells (record { file = D.file desk.old; reads = D.read_faults desk.old; writes = D.write_faults desk.old; taken = D.taken desk.old; unkept = D.unkept desk.old }) (record { file = D.file desk.new; reads = D.read_faults desk.new; writes = D.write_faults desk.new; taken = D.taken desk.new; unkept = D.unkept desk.new }) names.entry.journal.now names.entry.output.now }
+    ensures input_known { OnOk result (IsKnown (D.says desk.new) names.entry.input.now) }
+    ensures output_known { OnOk result (IsKnown (D.says desk.new) names.entry.output.now) }
+    ensures journal_known { OnOk result (IsKnown (D.says desk.new) names.entry.journal.now) }
+    ensures untaken { OnErr result ((D.says desk.new).taken names.entry.input.now ≤ (D.says desk.old).taken names.entry.input.now) }
+    ensures cause { IfErr result (λ status. EndsCause (D.says desk.old) (D.says desk.new) names.entry.journal.now names.entry.input.now names.entry.output.now status) }
+    ensures files { MayEmpty D.tells (D.says desk.old) (D.says desk.new) names.entry.journal.now names.entry.output.now }
 {
     let input = match desk.open_in(names.input) {
         Ok(input) => input,
@@ -75,14 +76,14 @@ pub(crate) fn open_ends<D: Desk>(
 fn open_outputs<D: Desk>(desk: &mut D, names: Names) -> Result<Outputs<D::Out>, Status>
     requires apart { names.journal.now ≢ names.output.now }
     ensures fresh { IfOk result (λ outs. AreFresh D.tells 0 0 (D.Out.got outs.output) (D.Out.got outs.journal) (D.Out.faults outs.output) (D.Out.faults outs.journal)) }
-    ensures output_known { OnOk result (D.known desk.new names.entry.output.now) }
-    ensures journal_known { OnOk result (D.known desk.new names.entry.journal.now) }
-    ensures cause { IfErr result (λ status. WrittenCause (record { file = D.file desk.old; reads = D.read_faults desk.old; writes = D.write_faults desk.old; taken = D.taken desk.old; unkept = D.unkept desk.old }) (record { file = D.file desk.new; reads = D.read_faults desk.new; writes = D.write_faults desk.new; taken = D.taken desk.new; unkept = D.unkept desk.new }) names.entry.journal.now names.entry.output.now status) }
-    ensures files { MayEmpty D.tells (record { file = D.file desk.old; reads = D.read_faults desk.old; writes = D.write_faults desk.old; taken = D.taken desk.old; unkept = D.unkept desk.old }) (record { file = D.file desk.new; reads = D.read_faults desk.new; writes = D.write_faults desk.new; taken = D.taken desk.new; unkept = D.unkept desk.new }) names.entry.journal.now names.entry.output.now }
-    ensures counts { OnlyOpens (record { file = D.file desk.old; reads = D.read_faults desk.old; writes = D.write_faults desk.old; taken = D.taken desk.old; unkept = D.unkept desk.old }) (record { file = D.file desk.new; reads = D.read_faults desk.new; writes = D.write_faults desk.new; taken = D.taken desk.new; unkept = D.unkept desk.new }) }
-    ensures reads { AllStay (D.read_faults desk.old) (D.read_faults desk.new) }
-    ensures taken { AllStay (D.taken desk.old) (D.taken desk.new) }
-    ensures known { NoneForgotten (D.known desk.old) (D.known desk.new) }
+    ensures output_known { OnOk result (IsKnown (D.says desk.new) names.entry.output.now) }
+    ensures journal_known { OnOk result (IsKnown (D.says desk.new) names.entry.journal.now) }
+    ensures cause { IfErr result (λ status. WrittenCause (D.says desk.old) (D.says desk.new) names.entry.journal.now names.entry.output.now status) }
+    ensures files { MayEmpty D.tells (D.says desk.old) (D.says desk.new) names.entry.journal.now names.entry.output.now }
+    ensures counts { OnlyOpens (D.says desk.old) (D.says desk.new) }
+    ensures reads { AllStay (D.says desk.old).reads (D.says desk.new).reads }
+    ensures taken { AllStay (D.says desk.old).taken (D.says desk.new).taken }
+    ensures known { NoneForgotten (IsKnown (D.says desk.old)) (IsKnown (D.says desk.new)) }
 {
     let output = match desk.open_out(names.output) {
         Ok(output) => output,

@@ -13,7 +13,7 @@ use view_words::{Row, pair_count, read_words};
 
 /// Runs the command that the words of the command line ask for, without the program's name.
 pub fn run<D: Desk, B: Beside>(alloc: Global, words: &[String], desk: &mut D, beside: &B) -> Ended
-    ensures { Runs D.tells (record { file = D.file desk.old; reads = D.read_faults desk.old; writes = D.write_faults desk.old; taken = D.taken desk.old; unkept = D.unkept desk.old }) (record { file = D.file desk.new; reads = D.read_faults desk.new; writes = D.write_faults desk.new; taken = D.taken desk.new; unkept = D.unkept desk.new }) (texts words.now) result }
+    ensures { Runs D.tells (D.says desk.old) (D.says desk.new) (texts words.now) result }
 {
     match read_words(words) {
         Ok(row) => run_line(alloc, row, words, desk, beside),
@@ -31,7 +31,7 @@ fn run_line<D: Desk, B: Beside>(
 ) -> Ended
     requires line { IsLine row (texts words.now) }
     requires long { least_words row ≤ length words.now }
-    ensures { RunsLine row D.tells (record { file = D.file desk.old; reads = D.read_faults desk.old; writes = D.write_faults desk.old; taken = D.taken desk.old; unkept = D.unkept desk.old }) (record { file = D.file desk.new; reads = D.read_faults desk.new; writes = D.write_faults desk.new; taken = D.taken desk.new; unkept = D.unkept desk.new }) (texts words.now) result }
+    ensures { RunsLine row D.tells (D.says desk.old) (D.says desk.new) (texts words.now) result }
 {
     match row {
         Row::Draw => Ended::only(alloc, draw_line(alloc, words, desk, beside)),
@@ -49,7 +49,7 @@ fn serve_line<D: Desk, B: Beside>(
     beside: &B,
 ) -> Ended
     requires line { IsLine Row.Serve (texts words.now) }
-    ensures { RunsServe D.tells (record { file = D.file desk.old; reads = D.read_faults desk.old; writes = D.write_faults desk.old; taken = D.taken desk.old; unkept = D.unkept desk.old }) (record { file = D.file desk.new; reads = D.read_faults desk.new; writes = D.write_faults desk.new; taken = D.taken desk.new; unkept = D.unkept desk.new }) (texts words.now) result }
+    ensures { RunsServe D.tells (D.says desk.old) (D.says desk.new) (texts words.now) result }
 {
     if pair_count(words) != 1 {
         return Ended::only(alloc, Status::NotYet);

@@ -1,6 +1,7 @@
 ghost use Rattle.std.specs.Arc.{arc_value};
 ghost use Rattle.std.specs.Prelude.{◌≡◌, ◌≢◌, ◌≤◌, [], Some, IsTrue, length};
 ghost use Rattle.sessions.specs.Histories.{journal};
+ghost use Rattle.view_ends.specs.Desk.{IsKnown};
 ghost use Rattle.view_commands.specs.Journal.{journal_text};
 ghost use Rattle.view_commands.specs.Serve as serve;
 ghost use Rattle.view_commands.specs.Serve.{AreFresh, Closes, RunsOpened, ServesSurvey, ServesOne};
@@ -33,7 +34,7 @@ pub(crate) fn serve<D: Desk, B: Beside>(
 ) -> Ended
     requires line { IsLine Row.Serve (texts words.now) }
     requires one { length words.now ≡ 6 }
-    ensures { ServesOne D.tells (record { file = D.file desk.old; reads = D.read_faults desk.old; writes = D.write_faults desk.old; taken = D.taken desk.old; unkept = D.unkept desk.old }) (record { file = D.file desk.new; reads = D.read_faults desk.new; writes = D.write_faults desk.new; taken = D.taken desk.new; unkept = D.unkept desk.new }) (word_at (texts words.now) 1) (word_at (texts words.now) 3) (word_at (texts words.now) 4) (word_at (texts words.now) 5) result }
+    ensures { ServesOne D.tells (D.says desk.old) (D.says desk.new) (word_at (texts words.now) 1) (word_at (texts words.now) 3) (word_at (texts words.now) 4) (word_at (texts words.now) 5) result }
 {
     let names = names_of(words);
     serve_names(alloc, names, workers(Row::Serve, words), desk, beside)
@@ -69,7 +70,7 @@ fn serve_names<D: Desk, B: Beside>(
     requires read { names.survey.now ≢ names.input.now }
     requires written { names.journal.now ≢ names.output.now }
     requires workers { (1 ≤ workers) × (workers ≤ 64) }
-    ensures { ServesOne D.tells (record { file = D.file desk.old; reads = D.read_faults desk.old; writes = D.write_faults desk.old; taken = D.taken desk.old; unkept = D.unkept desk.old }) (record { file = D.file desk.new; reads = D.read_faults desk.new; writes = D.write_faults desk.new; taken = D.taken desk.new; unkept = D.unkept desk.new }) names.entry.survey.now names.entry.journal.now names.entry.input.now names.entry.output.now result }
+    ensures { ServesOne D.tells (D.says desk.old) (D.says desk.new) names.entry.survey.now names.entry.journal.now names.entry.input.now names.entry.output.now result }
 {
     match read_survey(alloc, desk, names.survey) {
         Ok(survey) => serve_survey(alloc, survey, names, workers, desk, beside),
@@ -92,7 +93,7 @@ fn serve_survey<D: Desk, B: Beside>(
 ) -> Ended
     requires written { names.journal.now ≢ names.output.now }
     requires workers { (1 ≤ workers) × (workers ≤ 64) }
-    ensures { ServesSurvey D.tells (record { file = D.file desk.old; reads = D.read_faults desk.old; writes = D.write_faults desk.old; taken = D.taken desk.old; unkept = D.unkept desk.old }) (record { file = D.file desk.new; reads = D.read_faults desk.new; writes = D.write_faults desk.new; taken = D.taken desk.new; unkept = D.unkept desk.new }) names.entry.journal.now names.entry.input.now names.entry.output.now survey result result.told.sessions.items }
+    ensures { ServesSurvey D.tells (D.says desk.old) (D.says desk.new) names.entry.journal.now names.entry.input.now names.entry.output.now survey result result.told.sessions.items }
 {
     let Ok(survey) = Arc::new(alloc, survey) else {
         return Ended::only(alloc, Status::Memory);
@@ -115,11 +116,11 @@ fn serve_opened<D: Desk, B: Beside>(
 ) -> Ended
     requires written { names.journal.now ≢ names.output.now }
     requires workers { (1 ≤ scene.now.workers) × (scene.now.workers ≤ 64) }
-    requires input_known { D.known desk.old names.input.now }
-    requires output_known { D.known desk.old names.output.now }
-    requires journal_known { D.known desk.old names.journal.now }
+    requires input_known { IsKnown (D.says desk.old) names.input.now }
+    requires output_known { IsKnown (D.says desk.old) names.output.now }
+    requires journal_known { IsKnown (D.says desk.old) names.journal.now }
     requires fresh { AreFresh D.tells (D.In.taken ends.input) (D.In.faults ends.input) (D.Out.got ends.output) (D.Out.got ends.journal) (D.Out.faults ends.output) (D.Out.faults ends.journal) }
-    ensures { RunsOpened D.tells (record { file = D.file desk.old; reads = D.read_faults desk.old; writes = D.write_faults desk.old; taken = D.taken desk.old; unkept = D.unkept desk.old }) (record { file = D.file desk.new; reads = D.read_faults desk.new; writes = D.write_faults desk.new; taken = D.taken desk.new; unkept = D.unkept desk.new }) names.entry.journal.now names.entry.input.now names.entry.output.now (arc_value scene.now.survey) (D.In.left ends.input) result result.told.sessions.items }
+    ensures { RunsOpened D.tells (D.says desk.old) (D.says desk.new) names.entry.journal.now names.entry.input.now names.entry.output.now (arc_value scene.now.survey) (D.In.left ends.input) result result.told.sessions.items }
 {
     let Opened {
         mut input,
@@ -167,12 +168,12 @@ fn close_ends<D: Desk>(
     history: &[Entry],
 ) -> Closed
     requires written { names.journal.now ≢ names.output.now }
-    requires input_known { D.known desk.old names.input.now }
-    requires output_known { D.known desk.old names.output.now }
-    requires journal_known { D.known desk.old names.journal.now }
+    requires input_known { IsKnown (D.says desk.old) names.input.now }
+    requires output_known { IsKnown (D.says desk.old) names.output.now }
+    requires journal_known { IsKnown (D.says desk.old) names.journal.now }
     requires empty { IsTrue D.tells → D.Out.got ends.journal ≡ Some [] }
     requires faultless { D.Out.faults ends.journal ≡ 0 }
-    ensures { Closes D.tells (record { file = D.file desk.old; reads = D.read_faults desk.old; writes = D.write_faults desk.old; taken = D.taken desk.old; unkept = D.unkept desk.old }) (record { file = D.file desk.new; reads = D.read_faults desk.new; writes = D.write_faults desk.new; taken = D.taken desk.new; unkept = D.unkept desk.new }) names.entry.journal.now names.entry.input.now names.entry.output.now (D.In.taken ends.input) (D.In.faults ends.input) (D.Out.got ends.output) (D.Out.faults ends.output) (journal_text (journal history.now)) result }
+    ensures { Closes D.tells (D.says desk.old) (D.says desk.new) names.entry.journal.now names.entry.input.now names.entry.output.now (D.In.taken ends.input) (D.In.faults ends.input) (D.Out.got ends.output) (D.Out.faults ends.output) (journal_text (journal history.now)) result }
 {
     let Opened {
         input,

@@ -1,4 +1,5 @@
-ghost use Rattle.std.specs.Prelude.{◌≡◌, ℕ, List, None, false};
+ghost use Rattle.std.specs.Prelude.{◌≡◌, None, false};
+ghost use Rattle.view_ends.specs.Desk.{IsNew};
 
 use crate::desk::Desk;
 use crate::fault::EndFault;
@@ -29,10 +30,7 @@ where
 {
     /// The desk of this runtime, of which no name was opened yet.
     pub fn new(rt: R, alloc: Global) -> HostDesk<R>
-        ensures reads { (name : List ℕ) → ⟦<HostDesk<R> as Desk>⟧.read_faults result name ≡ 0 }
-        ensures writes { (name : List ℕ) → ⟦<HostDesk<R> as Desk>⟧.write_faults result name ≡ 0 }
-        ensures taken { (name : List ℕ) → ⟦<HostDesk<R> as Desk>⟧.taken result name ≡ 0 }
-        ensures unkept { (name : List ℕ) → ⟦<HostDesk<R> as Desk>⟧.unkept result name ≡ 0 }
+        ensures { IsNew (⟦<HostDesk<R> as Desk>⟧.says result) }
     {
         HostDesk {
             rt,
@@ -84,7 +82,7 @@ where
     R::File: Send,
     R::Reader: Send,
 {
-    ghost use Rattle.view_ends.specs.Ledger.{counts_of, IsEntered};
+    ghost use Rattle.view_ends.specs.Ledger.{said};
 
     type In = HostSource<R::File, R::Reader>;
 
@@ -92,24 +90,14 @@ where
 
     ghost tells = { false };
 
-    ghost file = { λ _ _. None };
-
-    ghost read_faults = { λ d name. (counts_of d.ledger name).read_faults };
-
-    ghost write_faults = { λ d name. (counts_of d.ledger name).write_faults };
-
-    ghost taken = { λ d name. (counts_of d.ledger name).taken };
-
-    ghost unkept = { λ d name. (counts_of d.ledger name).unkept };
-
-    ghost known = { λ d name. IsEntered d.ledger name };
+    ghost says = { λ d. said (λ _. None) d.ledger };
 
     fn open_in(&mut self, name: &str) -> Result<HostSource<R::File, R::Reader>, EndFault> {
         self.ledger.enter(name)?;
         match self.origin(name) {
             Some(origin) => Ok(HostSource::new(origin)),
             None => {
-                self.ledger.add_read_faults(name, 1);
+                self.ledger.add_unopened(name);
                 Err(EndFault::Failed)
             }
         }

@@ -8,6 +8,7 @@ use view_base::OutOfMemory;
 /// What a desk counted of one name. Each count stands still at the last value of its type.
 #[derive(Clone, Copy, Debug, PartialEq, Eq)]
 pub(crate) struct Counts {
+    pub(crate) unopened: u64,
     pub(crate) read_faults: u64,
     pub(crate) write_faults: u64,
     pub(crate) taken: u64,
@@ -15,6 +16,7 @@ pub(crate) struct Counts {
 }
 
 const NOTHING: Counts = Counts {
+    unopened: 0,
     read_faults: 0,
     write_faults: 0,
     taken: 0,
@@ -61,6 +63,19 @@ impl Ledger {
         let key = String::from_str(self.alloc, name)?;
         self.counts.insert(key, NOTHING)?;
         Ok(())
+    }
+
+    /// Counts one more refusal to open a name that was entered for reading.
+    pub(crate) fn add_unopened(&mut self, name: &str)
+        requires { IsEntered self.old name.now }
+        ensures fits { (counts_of self.old name.now).unopened < 2 ^ 64 }
+        ensures this { counts_of self.new name.now ≡ record (counts_of self.old name.now) { unopened = min ((counts_of self.old name.now).unopened + 1) (2 ^ 64 - 1) } }
+        ensures others { OthersStay (counts_of self.old) (counts_of self.new) name.now }
+        ensures entered { NoneForgotten (IsEntered self.old) (IsEntered self.new) }
+    {
+        let mut counts = self.of(name);
+        counts.unopened = counts.unopened.saturating_add(1);
+        self.set(name, counts);
     }
 
     /// Counts `n` more failed reads of a name that was entered.

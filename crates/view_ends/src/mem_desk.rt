@@ -1,5 +1,5 @@
-ghost use Rattle.std.specs.Prelude.{◌≡◌, ℕ, List, Some, None, true, OnOk, OnErr, MatchOption};
-ghost use Rattle.view_ends.specs.Ends.{AllStay, OthersStay, NoneForgotten};
+ghost use Rattle.std.specs.Prelude.{◌≡◌, Some, None, true, MatchOption};
+ghost use Rattle.view_ends.specs.Desk.{IsNew, Puts, Untouched};
 
 use crate::desk::Desk;
 use crate::fault::EndFault;
@@ -24,11 +24,7 @@ pub struct MemDesk {
 impl MemDesk {
     /// A desk without files, of which no call is to fail.
     pub fn new(alloc: Global) -> MemDesk
-        ensures files { (name : List ℕ) → ⟦<MemDesk as Desk>⟧.file result name ≡ None }
-        ensures reads { (name : List ℕ) → ⟦<MemDesk as Desk>⟧.read_faults result name ≡ 0 }
-        ensures writes { (name : List ℕ) → ⟦<MemDesk as Desk>⟧.write_faults result name ≡ 0 }
-        ensures taken { (name : List ℕ) → ⟦<MemDesk as Desk>⟧.taken result name ≡ 0 }
-        ensures unkept { (name : List ℕ) → ⟦<MemDesk as Desk>⟧.unkept result name ≡ 0 }
+        ensures { IsNew (⟦<MemDesk as Desk>⟧.says result) }
     {
         MemDesk {
             alloc,
@@ -40,49 +36,49 @@ impl MemDesk {
 
     /// Puts a file on the desk, in place of one of this name. After an `Err` no file changed.
     pub fn put(&mut self, name: &str, bytes: Bytes) -> Result<(), OutOfMemory>
-        ensures put { OnOk result (⟦<MemDesk as Desk>⟧.file self.new name.now ≡ Some bytes.items) }
-        ensures others { OthersStay (⟦<MemDesk as Desk>⟧.file self.old) (⟦<MemDesk as Desk>⟧.file self.new) name.now }
-        ensures refused { OnErr result (AllStay (⟦<MemDesk as Desk>⟧.file self.old) (⟦<MemDesk as Desk>⟧.file self.new)) }
-        ensures reads { AllStay (⟦<MemDesk as Desk>⟧.read_faults self.old) (⟦<MemDesk as Desk>⟧.read_faults self.new) }
-        ensures writes { AllStay (⟦<MemDesk as Desk>⟧.write_faults self.old) (⟦<MemDesk as Desk>⟧.write_faults self.new) }
-        ensures taken { AllStay (⟦<MemDesk as Desk>⟧.taken self.old) (⟦<MemDesk as Desk>⟧.taken self.new) }
-        ensures unkept { AllStay (⟦<MemDesk as Desk>⟧.unkept self.old) (⟦<MemDesk as Desk>⟧.unkept self.new) }
-        ensures known { NoneForgotten (⟦<MemDesk as Desk>⟧.known self.old) (⟦<MemDesk as Desk>⟧.known self.new) }
+        ensures put { Puts (⟦<MemDesk as Desk>⟧.says self.old) (⟦<MemDesk as Desk>⟧.says self.new) name.now bytes.items result }
     {
         self.files.put(name, bytes)
     }
 
     /// The bytes of a file, and `None` where there is no such file.
     pub fn bytes_of(&self, name: &str) -> Option<&[u8]>
-        ensures { MatchOption result (⟦<MemDesk as Desk>⟧.file self.now name.now ≡ None) (λ bytes. ⟦<MemDesk as Desk>⟧.file self.now name.now ≡ Some bytes.now) }
+        ensures { MatchOption result ((⟦<MemDesk as Desk>⟧.says self.now).file name.now ≡ None) (λ bytes. (⟦<MemDesk as Desk>⟧.says self.now).file name.now ≡ Some bytes.now) }
     {
         self.files.get(name)
     }
 
+    /// How often a name was not opened for reading.
+    pub fn unopened(&self, name: &str) -> u64
+        ensures { result ≡ (⟦<MemDesk as Desk>⟧.says self.now).unopened name.now }
+    {
+        self.ledger.of(name).unopened
+    }
+
     /// How often reading of a name failed.
     pub fn read_faults(&self, name: &str) -> u64
-        ensures { result ≡ ⟦<MemDesk as Desk>⟧.read_faults self.now name.now }
+        ensures { result ≡ (⟦<MemDesk as Desk>⟧.says self.now).reads name.now }
     {
         self.ledger.of(name).read_faults
     }
 
     /// How often writing of a name failed.
     pub fn write_faults(&self, name: &str) -> u64
-        ensures { result ≡ ⟦<MemDesk as Desk>⟧.write_faults self.now name.now }
+        ensures { result ≡ (⟦<MemDesk as Desk>⟧.says self.now).writes name.now }
     {
         self.ledger.of(name).write_faults
     }
 
     /// How many bytes were taken from the inputs of a name that were shut.
     pub fn taken(&self, name: &str) -> u64
-        ensures { result ≡ ⟦<MemDesk as Desk>⟧.taken self.now name.now }
+        ensures { result ≡ (⟦<MemDesk as Desk>⟧.says self.now).taken name.now }
     {
         self.ledger.of(name).taken
     }
 
     /// How often the keeping of a name was refused.
     pub fn unkept(&self, name: &str) -> u64
-        ensures { result ≡ ⟦<MemDesk as Desk>⟧.unkept self.now name.now }
+        ensures { result ≡ (⟦<MemDesk as Desk>⟧.says self.now).unkept name.now }
     {
         self.ledger.of(name).unkept
     }
@@ -91,12 +87,7 @@ impl MemDesk {
     /// that is a call of the next end opened of this name, when just `at` bytes were taken or
     /// given; for the other calls `at` says nothing.
     pub fn fail(&mut self, name: &str, call: DeskCall, at: u64) -> Result<(), OutOfMemory>
-        ensures files { AllStay (⟦<MemDesk as Desk>⟧.file self.old) (⟦<MemDesk as Desk>⟧.file self.new) }
-        ensures reads { AllStay (⟦<MemDesk as Desk>⟧.read_faults self.old) (⟦<MemDesk as Desk>⟧.read_faults self.new) }
-        ensures writes { AllStay (⟦<MemDesk as Desk>⟧.write_faults self.old) (⟦<MemDesk as Desk>⟧.write_faults self.new) }
-        ensures taken { AllStay (⟦<MemDesk as Desk>⟧.taken self.old) (⟦<MemDesk as Desk>⟧.taken self.new) }
-        ensures unkept { AllStay (⟦<MemDesk as Desk>⟧.unkept self.old) (⟦<MemDesk as Desk>⟧.unkept self.new) }
-        ensures known { NoneForgotten (⟦<MemDesk as Desk>⟧.known self.old) (⟦<MemDesk as Desk>⟧.known self.new) }
+        ensures desk { Untouched (⟦<MemDesk as Desk>⟧.says self.old) (⟦<MemDesk as Desk>⟧.says self.new) }
     {
         self.plans.add(name, call, at)
     }
@@ -104,7 +95,7 @@ impl MemDesk {
 
 impl Desk for MemDesk {
     ghost use Rattle.view_ends.specs.Files.{file_of};
-    ghost use Rattle.view_ends.specs.Ledger.{counts_of, IsEntered};
+    ghost use Rattle.view_ends.specs.Ledger.{said};
 
     type In = MemSource;
 
@@ -112,22 +103,12 @@ impl Desk for MemDesk {
 
     ghost tells = { true };
 
-    ghost file = { λ d name. file_of d.files name };
-
-    ghost read_faults = { λ d name. (counts_of d.ledger name).read_faults };
-
-    ghost write_faults = { λ d name. (counts_of d.ledger name).write_faults };
-
-    ghost taken = { λ d name. (counts_of d.ledger name).taken };
-
-    ghost unkept = { λ d name. (counts_of d.ledger name).unkept };
-
-    ghost known = { λ d name. IsEntered d.ledger name };
+    ghost says = { λ d. said (file_of d.files) d.ledger };
 
     fn open_in(&mut self, name: &str) -> Result<MemSource, EndFault> {
         self.ledger.enter(name)?;
         if self.plans.strike(name, DeskCall::OpenIn) || self.files.get(name).is_none() {
-            self.ledger.add_read_faults(name, 1);
+            self.ledger.add_unopened(name);
             return Err(EndFault::Failed);
         }
         let bytes = self.files.copy_of(name)?;
@@ -193,11 +174,11 @@ mod tests {
     #[test]
     fn each_call_fails_once(rt: HostRuntime) -> Result<(), Fail> {
         let cases = [
-            (DeskCall::OpenIn, "a", None, [1, 0, 0]),
-            (DeskCall::Take, "a", None, [1, 0, 0]),
-            (DeskCall::OpenOut, "b", None, [0, 1, 0]),
-            (DeskCall::Give, "b", Some(""), [0, 1, 0]),
-            (DeskCall::Keep, "b", Some(""), [0, 1, 1]),
+            (DeskCall::OpenIn, "a", None, [1, 0, 0, 0]),
+            (DeskCall::Take, "a", None, [0, 1, 0, 0]),
+            (DeskCall::OpenOut, "b", None, [0, 0, 1, 0]),
+            (DeskCall::Give, "b", Some(""), [0, 0, 1, 0]),
+            (DeskCall::Keep, "b", Some(""), [0, 0, 1, 1]),
         ];
         for (call, name, left, counts) in cases {
             let mut desk = MemDesk::new(rt.alloc());
@@ -216,6 +197,7 @@ mod tests {
                 "at {call:?}"
             );
             let counted = [
+                desk.unopened("a"),
                 desk.read_faults("a"),
                 desk.write_faults("b"),
                 desk.unkept("b"),

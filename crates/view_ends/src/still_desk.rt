@@ -1,5 +1,5 @@
-ghost use Rattle.std.specs.Prelude.{◌≡◌, ℕ, List, Some, None, true, OnOk, OnErr, MatchOption};
-ghost use Rattle.view_ends.specs.Ends.{AllStay, OthersStay, NoneForgotten};
+ghost use Rattle.std.specs.Prelude.{◌≡◌, Some, None, true, MatchOption};
+ghost use Rattle.view_ends.specs.Desk.{IsNew, Puts};
 
 use crate::desk::Desk;
 use crate::fault::EndFault;
@@ -22,9 +22,7 @@ pub struct StillDesk {
 impl StillDesk {
     /// A desk without files.
     pub fn new(alloc: Global) -> StillDesk
-        ensures files { (name : List ℕ) → ⟦<StillDesk as Desk>⟧.file result name ≡ None }
-        ensures taken { (name : List ℕ) → ⟦<StillDesk as Desk>⟧.taken result name ≡ 0 }
-        ensures unkept { (name : List ℕ) → ⟦<StillDesk as Desk>⟧.unkept result name ≡ 0 }
+        ensures { IsNew (⟦<StillDesk as Desk>⟧.says result) }
     {
         StillDesk {
             alloc,
@@ -35,26 +33,21 @@ impl StillDesk {
 
     /// Puts a file on the desk, in place of one of this name. After an `Err` no file changed.
     pub fn put(&mut self, name: &str, bytes: Bytes) -> Result<(), OutOfMemory>
-        ensures put { OnOk result (⟦<StillDesk as Desk>⟧.file self.new name.now ≡ Some bytes.items) }
-        ensures others { OthersStay (⟦<StillDesk as Desk>⟧.file self.old) (⟦<StillDesk as Desk>⟧.file self.new) name.now }
-        ensures refused { OnErr result (AllStay (⟦<StillDesk as Desk>⟧.file self.old) (⟦<StillDesk as Desk>⟧.file self.new)) }
-        ensures taken { AllStay (⟦<StillDesk as Desk>⟧.taken self.old) (⟦<StillDesk as Desk>⟧.taken self.new) }
-        ensures unkept { AllStay (⟦<StillDesk as Desk>⟧.unkept self.old) (⟦<StillDesk as Desk>⟧.unkept self.new) }
-        ensures known { NoneForgotten (⟦<StillDesk as Desk>⟧.known self.old) (⟦<StillDesk as Desk>⟧.known self.new) }
+        ensures put { Puts (⟦<StillDesk as Desk>⟧.says self.old) (⟦<StillDesk as Desk>⟧.says self.new) name.now bytes.items result }
     {
         self.files.put(name, bytes)
     }
 
     /// The bytes of a file, and `None` where there is no such file.
     pub fn bytes_of(&self, name: &str) -> Option<&[u8]>
-        ensures { MatchOption result (⟦<StillDesk as Desk>⟧.file self.now name.now ≡ None) (λ bytes. ⟦<StillDesk as Desk>⟧.file self.now name.now ≡ Some bytes.now) }
+        ensures { MatchOption result ((⟦<StillDesk as Desk>⟧.says self.now).file name.now ≡ None) (λ bytes. (⟦<StillDesk as Desk>⟧.says self.now).file name.now ≡ Some bytes.now) }
     {
         self.files.get(name)
     }
 
     /// How many bytes were taken from the inputs of a name that were shut.
     pub fn taken(&self, name: &str) -> u64
-        ensures { result ≡ ⟦<StillDesk as Desk>⟧.taken self.now name.now }
+        ensures { result ≡ (⟦<StillDesk as Desk>⟧.says self.now).taken name.now }
     {
         self.ledger.of(name).taken
     }
@@ -62,7 +55,7 @@ impl StillDesk {
 
 impl Desk for StillDesk {
     ghost use Rattle.view_ends.specs.Files.{file_of};
-    ghost use Rattle.view_ends.specs.Ledger.{counts_of, IsEntered};
+    ghost use Rattle.view_ends.specs.Ledger.{said};
 
     type In = StillSource;
 
@@ -70,17 +63,7 @@ impl Desk for StillDesk {
 
     ghost tells = { true };
 
-    ghost file = { λ d name. file_of d.files name };
-
-    ghost read_faults = { λ _ _. 0 };
-
-    ghost write_faults = { λ _ _. 0 };
-
-    ghost taken = { λ d name. (counts_of d.ledger name).taken };
-
-    ghost unkept = { λ d name. (counts_of d.ledger name).unkept };
-
-    ghost known = { λ d name. IsEntered d.ledger name };
+    ghost says = { λ d. record (said (file_of d.files) d.ledger) { unopened = λ _. 0; reads = λ _. 0; writes = λ _. 0 } };
 
     fn open_in(&mut self, name: &str) -> Result<StillSource, EndFault> {
         let bytes = self.files.copy_of(name)?;

@@ -23,8 +23,8 @@ returns-in-Ok g c = record {
   too_long = search rules;
   not_laid = search rules;
   write_fault = search rules;
-  settled = λ tells b is no_read no_write.
-      let same = same_bytes (g.D.Desk.file c.args.desk.now c.args.name.now) b c.in-Ok.survey is c.in-Ok.ensures.bytes.all in
+  settled = λ tells b is no_refusal no_read no_write.
+      let same = same_bytes ((g.D.Desk.says c.args.desk.now).file c.args.name.now) b c.in-Ok.survey is c.in-Ok.ensures.bytes.all in
       record {
         too_long = search rules;
         not_laid = λ few fault found. absurd (fault-laid b fault (subst (λ (b : List ℕ). IsLaid b) (sym same) c.in-Ok.ensures.laid) found);
@@ -51,9 +51,9 @@ returns-in-Survey g c =
           let same : c.in-Survey.fault ≡ fault = cc is in
           (came.0, came.1, subst (λ (told : SurveyFault). layout.fault came.0 ≡ Some (fault_of told)) same came.2);
       write_fault = search rules;
-      settled = λ tells b is no_read no_write.
+      settled = λ tells b is no_refusal no_read no_write.
           let found : layout.fault b ≡ Some (fault_of c.in-Survey.fault) =
-          ap layout.fault (same_bytes (g.D.Desk.file c.args.desk.now c.args.name.now) b came.0 is came.1.all) ∙ came.2 in
+          ap layout.fault (same_bytes ((g.D.Desk.says c.args.desk.now).file c.args.name.now) b came.0 is came.1.all) ∙ came.2 in
           record {
             too_long = search rules;
             not_laid = λ few fault is. inl (is_survey-told b fault c.in-Survey.fault found is);

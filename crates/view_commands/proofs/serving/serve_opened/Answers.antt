@@ -3,15 +3,15 @@ use Rattle.std.specs.Arc.{arc_value}
 use Rattle.view_ends.specs.Ends.{Rose, RoseBy}
 use Rattle.sessions.specs.declared.end.Reason.TheVariants.{ReadFault, WriteFault}
 use Rattle.sessions.proofs.Histories.{held_current}
-use Rattle.view_commands.specs.Desk.{Said}
+use Rattle.view_ends.specs.Desk.{Said}
 use Rattle.view_commands.proofs.Counts.{end_cause, kept_finished}
 use Rattle.view_commands.proofs.OneSession.{one_ran}
 use Rattle.view_commands.proofs.serving.serve_opened.Goals as goal
 
 pub returns : goal.returns
 returns g c =
-    let old : Said = record { file = g.D.Desk.file c.args.desk.now; reads = g.D.Desk.read_faults c.args.desk.now; writes = g.D.Desk.write_faults c.args.desk.now; taken = g.D.Desk.taken c.args.desk.now; unkept = g.D.Desk.unkept c.args.desk.now } in
-    let new : Said = record { file = g.D.Desk.file c.close_ends-closed.new.desk; reads = g.D.Desk.read_faults c.close_ends-closed.new.desk; writes = g.D.Desk.write_faults c.close_ends-closed.new.desk; taken = g.D.Desk.taken c.close_ends-closed.new.desk; unkept = g.D.Desk.unkept c.close_ends-closed.new.desk } in
+    let old : Said = g.D.Desk.says c.args.desk.now in
+    let new : Said = g.D.Desk.says c.close_ends-closed.new.desk in
     let input = c.args.names.input.now in
     let output = c.args.names.output.now in
     let session = c.serve_alone-end.ensures in
