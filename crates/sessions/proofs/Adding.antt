@@ -11,13 +11,13 @@ use Rattle.class_pages.specs.Fitting.{EachFits}
 use Rattle.view_lines.specs.Command.{refusal_code}
 use Rattle.view_lines.specs.declared.command.Command.TheVariants.{View, Edit, Save}
 use Rattle.view_lines.specs.declared.refusal.Refusal.{Refusal}
-use Rattle.sessions.specs.declared.history.What.TheVariants.{Publish, Pin, Unpin}
+use Rattle.version_store.specs.declared.history.What.TheVariants.{Publish, Pin, Unpin}
 use Rattle.sessions.specs.declared.talk.Talk.{Talk}
 use Rattle.sessions.specs.Lines.{Item}
-use Rattle.sessions.specs.Histories.{journal}
+use Rattle.version_store.specs.Histories.{journal}
 use Rattle.sessions.specs.Replies.{version, head, with_length, reply}
 use Rattle.sessions.specs.Talk.{IsSound, Stays, Adds, by_one, entries_of, last_mark, mark_of, last_reply}
-use Rattle.sessions.proofs.Histories.{length-journal}
+use Rattle.version_store.proofs.HistoryLaws.{length-journal}
 use Rattle.sessions.proofs.Tales.{published, journal_more}
 use Rattle.sessions.proofs.Replying.{last_mark-push}
 

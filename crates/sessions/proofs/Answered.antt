@@ -18,10 +18,10 @@ use Rattle.las_write.proofs.Fronts.{part_of_first, part_of_second}
 use Rattle.las_write.proofs.Saved.{saved-length}
 use Rattle.view_lines.specs.Command.{command_of}
 use Rattle.view_lines.specs.declared.command.Command.TheVariants.{View, Edit, Save}
-use Rattle.sessions.specs.declared.history.What.TheVariants.{Publish, Pin, Unpin}
+use Rattle.version_store.specs.declared.history.What.TheVariants.{Publish, Pin, Unpin}
 use Rattle.sessions.specs.declared.talk.Talk.{Talk}
 use Rattle.sessions.specs.Lines.{Item, LINE, without_cr, items_of}
-use Rattle.sessions.specs.Histories.{journal}
+use Rattle.version_store.specs.Histories.{journal}
 use Rattle.sessions.specs.Replies.{head}
 use Rattle.sessions.specs.Talk.{IsSound, Stays, Adds, Answered, AnsweredAll, by_one, last_reply}
 use Rattle.sessions.proofs.Adding.{sound_stays, adds_stays, adds_view, adds_save, adds_edit, last_reply-view, last_reply-save, last_reply-edit}

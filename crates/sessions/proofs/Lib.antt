@@ -1,4 +1,3 @@
-pub mod Histories
 mod Tales
 mod Replying
 mod Adding

@@ -10,10 +10,10 @@ use Rattle.view_meaning.specs.Picture.{picture}
 use Rattle.view_meaning.specs.Saved.{saved}
 use Rattle.class_pages.specs.Changed.{changed}
 use Rattle.view_lines.specs.declared.command.Command.TheVariants.{View, Edit, Save}
-use Rattle.sessions.specs.declared.history.Entry.{Entry}
+use Rattle.version_store.specs.declared.history.Entry.{Entry}
 use Rattle.sessions.specs.declared.talk.Talk.{Talk}
 use Rattle.sessions.specs.Lines.{Item}
-use Rattle.sessions.specs.Histories.{journal}
+use Rattle.version_store.specs.Histories.{journal}
 use Rattle.sessions.specs.Replies.{version, head, with_length, reply, replies}
 use Rattle.sessions.specs.Session.{but_last, GotMost, Served}
 use Rattle.sessions.specs.Listening.{Listened}

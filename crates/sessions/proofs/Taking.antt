@@ -2,7 +2,7 @@
 use Rattle.std.proofs.Common.{◌≡◌, ℕ, ◌+◌, ◌≤◌, List, [], ◌++◌, length, take, Option, Some, None, IfSome, Result, Ok, Err, OnOk, OnErr, is_err, true, min, refl, sym, ap, subst, ◌∙◌, ◌⊎◌, inl, inr, arith, length-append}
 use Rattle.std.proofs.lemmas.List.{append-nil, append_assoc, take_all, length-take, take-append-le}
 use Rattle.std.proofs.Math.Seq.{take-append_seam}
-use Rattle.view_ends.specs.Ends.{Leaves, Ended}
+use Rattle.view_ends.specs.Ends.{Leaves, IsSpent}
 use Rattle.view_ends.specs.declared.fault.EndFault.{EndFault}
 use Rattle.view_ends.specs.declared.fault.EndFault.TheVariants as fault
 use Rattle.view_meaning.specs.Classes as meaning
@@ -11,7 +11,7 @@ use Rattle.sessions.specs.declared.end.Reason.TheVariants.{Finished, ReadFault, 
 use Rattle.sessions.specs.declared.talk.Talk.{Talk}
 use Rattle.sessions.specs.declared.pending.Pending.{Pending}
 use Rattle.sessions.specs.Lines.{Item, commands, whole}
-use Rattle.sessions.specs.Histories.{journal}
+use Rattle.version_store.specs.Histories.{journal}
 use Rattle.sessions.specs.Replies.{replies}
 use Rattle.sessions.specs.Session.{LIMIT, IsFrontOf, within, MayProcess, GotMost, Got, Served}
 use Rattle.sessions.specs.Talk.{IsAnswering, GaveUp}
@@ -25,10 +25,10 @@ told_input None now t h = ([], tt)
 told_input (Some all) now t h = (h.0, h.2)
 
 -- what was taken is the input where it ended
-told_end : (old now : Option (List ℕ)) (t : List ℕ) → Leaves old t now → Ended now → IfSome old (λ all. all ≡ t)
+told_end : (old now : Option (List ℕ)) (t : List ℕ) → Leaves old t now → IsSpent now → IfSome old (λ all. all ≡ t)
 told_end None now t h ended = tt
 told_end (Some all) now t h ended =
-    let none : h.0 ≡ [] = subst Ended h.1 ended in
+    let none : h.0 ≡ [] = subst IsSpent h.1 ended in
     h.2 ∙ ap (λ u. t ++ u) none ∙ append-nil t
 
 -- more was taken
@@ -82,7 +82,7 @@ listened_limit b t more talk pending left mid start now taken many one past take
     }
 
 -- its input was read to the end, and each line was answered
-listened_end : (b t : List ℕ) (talk : Talk) (left mid start now : Option (List ℕ)) (taken : ℕ) → length t ≡ taken → taken ≤ LIMIT → Leaves left t mid → Ended mid → IsAnswering b (whole (format_of b) t) talk start now → Listened b talk left start now Finished taken
+listened_end : (b t : List ℕ) (talk : Talk) (left mid start now : Option (List ℕ)) (taken : ℕ) → length t ≡ taken → taken ≤ LIMIT → Leaves left t mid → IsSpent mid → IsAnswering b (whole (format_of b) t) talk start now → Listened b talk left start now Finished taken
 listened_end b t talk left mid start now taken many few taken_off ended h = record {
   input = t;
   items = whole (format_of b) t;
@@ -131,7 +131,7 @@ listened_gave_up b t talk left mid start now taken why many few taken_off h =
     }
 
 -- the reply of the last line was not given
-last_gave_up : (b t : List ℕ) (talk : Talk) (left mid start now : Option (List ℕ)) (taken : ℕ) (why : EndFault) → length t ≡ taken → taken ≤ LIMIT → Leaves left t mid → Ended mid → GaveUp b (whole (format_of b) t) talk start now → Listened b talk left start now (reason_of (Err why)) taken
+last_gave_up : (b t : List ℕ) (talk : Talk) (left mid start now : Option (List ℕ)) (taken : ℕ) (why : EndFault) → length t ≡ taken → taken ≤ LIMIT → Leaves left t mid → IsSpent mid → GaveUp b (whole (format_of b) t) talk start now → Listened b talk left start now (reason_of (Err why)) taken
 last_gave_up b t talk left mid start now taken why many few taken_off ended h = record {
   input = t;
   items = take h.count (whole (format_of b) t);
@@ -147,7 +147,7 @@ last_gave_up b t talk left mid start now taken why many few taken_off ended h = 
 }
 
 -- its input was read to the end
-pub listened_last : (b t : List ℕ) (old talk : Talk) (pending : Pending) (left mid start before now : Option (List ℕ)) (taken : ℕ) (result : Result (Unit {0}) EndFault) → length t ≡ taken → taken ≤ LIMIT → Leaves left t mid → Ended mid → HasHeard b t old pending start before
+pub listened_last : (b t : List ℕ) (old talk : Talk) (pending : Pending) (left mid start before now : Option (List ℕ)) (taken : ℕ) (result : Result (Unit {0}) EndFault) → length t ≡ taken → taken ≤ LIMIT → Leaves left t mid → IsSpent mid → HasHeard b t old pending start before
     → OnOk result ((t : List ℕ) → (start : Option (List ℕ)) → HasHeard b t old pending start before → IsAnswering b (whole (format_of b) t) talk start now)
     → OnErr result ((t : List ℕ) → (start : Option (List ℕ)) → HasHeard b t old pending start before → GaveUp b (whole (format_of b) t) talk start now)
     → Listened b talk left start now (reason_of result) taken

@@ -6,13 +6,13 @@ use Rattle.std.proofs.lemmas.List.{append-nil, append_assoc, length_push, get_or
 use Rattle.std.proofs.lemmas.List.Elements.{filter-append, All-append, All-nil, All-cons}
 use Rattle.view_meaning.specs.Classes as meaning
 use Rattle.view_lines.specs.declared.command.Command.TheVariants.{View, Edit, Save}
-use Rattle.sessions.specs.declared.history.What.TheVariants.{Publish, Pin, Unpin}
-use Rattle.sessions.specs.declared.history.Entry.{Entry}
+use Rattle.version_store.specs.declared.history.What.TheVariants.{Publish, Pin, Unpin}
+use Rattle.version_store.specs.declared.history.Entry.{Entry}
 use Rattle.sessions.specs.Lines.{Item}
-use Rattle.sessions.specs.Histories.{journal, numbered, numbered_from, IsLegal, IsGivenBack}
-use Rattle.sessions.specs.Session.{own, Makes, Told, Fresh}
+use Rattle.version_store.specs.Histories.{journal, numbered, numbered_from, IsLegal, IsGivenBack}
+use Rattle.sessions.specs.Session.{own, Makes, Enters, Fresh}
 use Rattle.sessions.specs.Talk.{by_one, entries_of, last_mark, mark_of, IsTale}
-use Rattle.sessions.proofs.Histories.{numbered-append, journal-publish, journal-pin, journal-unpin, IsLegal-none, IsLegal-publish, IsLegal-shown, IsGivenBack-none, IsGivenBack-publish, IsGivenBack-shown}
+use Rattle.version_store.proofs.HistoryLaws.{numbered-append, journal-publish, journal-pin, journal-unpin, IsLegal-none, IsLegal-publish, IsLegal-shown, IsGivenBack-none, IsGivenBack-publish, IsGivenBack-shown}
 
 -- the edits that an item publishes
 abbrev pub published : Item → List meaning.Edit
@@ -224,7 +224,7 @@ tale_more items marks h item tale =
     }
 
 -- the tale of a session alone tells its entries, and its marks are fresh
-pub tale_told : (items : List Item) (marks : List ℕ) (h : List Entry) → IsTale items marks h → Told [] h 1 items marks
+pub tale_told : (items : List Item) (marks : List ℕ) (h : List Entry) → IsTale items marks h → Enters [] h 1 items marks
 tale_told items marks h tale = record { begins = refl; makes = tale.makes }
 
 pub tale_fresh : (items : List Item) (marks : List ℕ) (h : List Entry) → IsTale items marks h → Fresh [] items marks

@@ -1,5 +1,4 @@
 pub mod Lines
-pub mod Histories
 pub mod Replies
 pub mod Session
 pub mod Giving

@@ -8,7 +8,7 @@ use Rattle.sessions.specs.declared.end.Reason as reason
 use Rattle.sessions.specs.declared.end.Reason.TheVariants.{Finished, ReadFault, WriteFault, Memory}
 use Rattle.sessions.specs.declared.talk.Talk.{Talk}
 use Rattle.sessions.specs.Lines.{Item}
-use Rattle.sessions.specs.Histories.{journal}
+use Rattle.version_store.specs.Histories.{journal}
 use Rattle.sessions.specs.Session.{Processed, Got}
 use Rattle.sessions.specs.Talk.{IsTale}
 

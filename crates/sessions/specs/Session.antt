@@ -6,12 +6,12 @@ use Rattle.view_meaning.specs.Classes as meaning
 use Rattle.view_meaning.specs.Survey.{format_of}
 use Rattle.view_lines.specs.declared.command.Command.TheVariants as command
 use Rattle.view_lines.specs.declared.command.Command.{Command}
-use Rattle.sessions.specs.declared.history.What.TheVariants.{Publish, Pin, Unpin}
-use Rattle.sessions.specs.declared.history.Entry.{Entry}
+use Rattle.version_store.specs.declared.history.What.TheVariants.{Publish, Pin, Unpin}
+use Rattle.version_store.specs.declared.history.Entry.{Entry}
 use Rattle.sessions.specs.declared.end.Reason as reason
 use Rattle.sessions.specs.declared.end.Reason.TheVariants.{Finished, ReadFault, SessionLimit, WriteFault, Memory}
 use Rattle.sessions.specs.Lines.{Item, commands, whole}
-use Rattle.sessions.specs.Histories.{journal, numbered}
+use Rattle.version_store.specs.Histories.{journal, numbered}
 use Rattle.sessions.specs.Replies.{replies}
 
 -- the most bytes of a session's input
@@ -64,7 +64,7 @@ Makes before (Ok command.Save ∷ items) (mark ∷ marks) (at ∷ after ∷ entr
 Makes before _ _ _ = ⊥
 
 -- a history that a caller saw grow: its own new entries are those of its items in order, under these marks
-pub record Told (h0 h : List Entry) (who : ℕ) (items : List Item) (marks : List ℕ) : Type 0 where
+pub record Enters (h0 h : List Entry) (who : ℕ) (items : List Item) (marks : List ℕ) : Type 0 where
   pub begins : take (length h0) h ≡ h0
   pub makes : Makes 0 items marks (own who (length h0) h)
 
@@ -101,6 +101,6 @@ pub record Served (b : List ℕ) (h0 h : List Entry) (who : ℕ) (left old new :
   pub items : List Item
   pub input_is : IfSome left (λ all. all ≡ input)
   pub processed : Processed (format_of b) input taken reason items
-  pub told : Told h0 h who items marks
+  pub told : Enters h0 h who items marks
   pub fresh : Fresh h0 items marks
   pub got : Got b (journal h) items marks old new reason

@@ -5,12 +5,12 @@ use Rattle.view_meaning.specs.Survey.{format_of}
 use Rattle.class_pages.specs.Fitting.{EachFits}
 use Rattle.view_lines.specs.declared.command.Command.TheVariants.{View, Edit, Save}
 use Rattle.view_ends.specs.Ends.{Gains, GainsPart}
-use Rattle.sessions.specs.declared.history.What.{What}
-use Rattle.sessions.specs.declared.history.What.TheVariants.{Publish, Pin, Unpin}
-use Rattle.sessions.specs.declared.history.Entry.{Entry}
+use Rattle.version_store.specs.declared.history.What.{What}
+use Rattle.version_store.specs.declared.history.What.TheVariants.{Publish, Pin, Unpin}
+use Rattle.version_store.specs.declared.history.Entry.{Entry}
 use Rattle.sessions.specs.declared.talk.Talk.{Talk}
 use Rattle.sessions.specs.Lines.{Item}
-use Rattle.sessions.specs.Histories.{journal, IsLegal, IsGivenBack}
+use Rattle.version_store.specs.Histories.{journal, IsLegal, IsGivenBack}
 use Rattle.sessions.specs.Replies.{reply, replies}
 use Rattle.sessions.specs.Session.{Makes, own, GotMost}
 

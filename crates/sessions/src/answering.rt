@@ -4,7 +4,7 @@ ghost use Rattle.view_meaning.specs.Picture as meaning;
 ghost use Rattle.view_meaning.specs.Survey.{format_of};
 ghost use Rattle.view_meaning.specs.Classes.{top_class};
 ghost use Rattle.view_lines.specs.declared.command.Command.TheVariants as command;
-ghost use Rattle.view_lines.specs.Command.{HasRoom, IsByClass};
+ghost use Rattle.view_lines.specs.Command.{FitsFormat, IsByClass};
 ghost use Rattle.sessions.specs.Lines.{items_of, without_cr};
 ghost use Rattle.sessions.specs.Talk.{IsSound, Answered, AnsweredAll};
 ghost use Rattle.sessions.specs.Giving.{Gave};
@@ -57,7 +57,7 @@ fn answer_command<O: Sink, B: Beside>(
     sink: &mut O,
 ) -> Result<(), EndFault>
     requires workers { (1 ≤ scene.now.workers) × (scene.now.workers ≤ 64) }
-    requires room { HasRoom (format_of (arc_value scene.now.survey)) command.now }
+    requires room { FitsFormat (format_of (arc_value scene.now.survey)) command.now }
     requires by_class { IsByClass command.now }
     requires sound { IsSound (arc_value scene.now.survey) talk.old }
     ensures answered { Answered (arc_value scene.now.survey) talk.old talk.new (Ok command.now) (O.got sink.old) (O.got sink.new) (is_ok result) }

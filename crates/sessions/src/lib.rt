@@ -6,11 +6,10 @@ mod answering;
 mod end;
 mod heads;
 mod hearing;
-mod history;
 mod pending;
 mod serving;
 mod talk;
 
 pub use end::{Ends, Marks, Reason, SessionEnd};
-pub use history::{Entry, History, What};
+pub use version_store::{Entry, History, What};
 pub use serving::serve_alone;

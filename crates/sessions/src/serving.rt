@@ -2,7 +2,7 @@ ghost use Rattle.std.specs.Prelude.{◌≡◌, ℕ, ◌+◌, ◌≤◌, List, []
 ghost use Rattle.std.specs.Arc.{arc_value};
 ghost use Rattle.view_ends.specs.Ends.{Rose};
 ghost use Rattle.view_meaning.specs.Survey.{format_of};
-ghost use Rattle.sessions.specs.Histories.{IsLegal, IsGivenBack};
+ghost use Rattle.version_store.specs.Histories.{IsLegal, IsGivenBack};
 ghost use Rattle.sessions.specs.Hearing.{HasHeard};
 ghost use Rattle.sessions.specs.Listening.{Listened, Read, Wrote, reason_of};
 ghost use Rattle.sessions.specs.Session.{Served, Processed, AtMostOne};
@@ -10,7 +10,7 @@ ghost use Rattle.sessions.specs.declared.end.Reason.TheVariants.{Memory, ReadFau
 
 use crate::end::{Marks, Reason, SessionEnd};
 use crate::hearing::{hear, hear_end};
-use crate::history::History;
+use version_store::History;
 use crate::pending::Pending;
 use crate::talk::Talk;
 use class_pages::base;

@@ -1,9 +1,9 @@
 ghost use Rattle.std.specs.Prelude.{◌≡◌, ◌+◌, ◌≤◌, ◌<◌, length, ◌∷◌, ◌++◌, [], OnOk};
 ghost use Rattle.sessions.specs.Talk.{HasRoom, Stays, by_one, last_mark};
-ghost use Rattle.sessions.specs.declared.history.What.TheVariants.{Publish, Pin, Unpin};
+ghost use Rattle.version_store.specs.declared.history.What.TheVariants.{Publish, Pin, Unpin};
 
 use crate::end::Marks;
-use crate::history::{Entry, History, What};
+use version_store::{Entry, History, What};
 use class_pages::Classes;
 use edit_ops::Edit;
 use view_base::{OutOfMemory, Version};

@@ -3,9 +3,9 @@ use Rattle.std.proofs.Common.{◌≡◌, ℕ, List, [], ◌∷◌, ◌++◌, ref
 use Rattle.std.proofs.lemmas.Grind.{flat_map-append}
 use Rattle.edit_ops.specs.Canonical.{canonical}
 use Rattle.view_meaning.specs.Classes as meaning
-use Rattle.sessions.specs.declared.history.Entry.{Entry}
-use Rattle.sessions.specs.Histories.{journal, edit_in}
-use Rattle.sessions.proofs.Histories.{journal-append}
+use Rattle.version_store.specs.declared.history.Entry.{Entry}
+use Rattle.version_store.specs.Histories.{journal, edit_in}
+use Rattle.version_store.proofs.HistoryLaws.{journal-append}
 use Rattle.view_commands.specs.Journal.{journal_text}
 
 pub journal_text-append : (edits more : List meaning.Edit) → journal_text (edits ++ more) ≡ journal_text edits ++ journal_text more

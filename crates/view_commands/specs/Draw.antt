@@ -9,7 +9,7 @@ use Rattle.view_text.specs.ViewWords.{word_at, camera_numbers, is_built}
 use Rattle.view_words.specs.CommandLine.{badword, IsLine, view_words}
 use Rattle.view_words.specs.declared.row.Row.TheVariants.{Draw}
 use Rattle.view_ends.specs.Desk.{Said, Untouched}
-use Rattle.view_commands.specs.Made.{Makes}
+use Rattle.view_commands.specs.Made.{MakesText}
 use Rattle.view_commands.specs.declared.status.Status as status
 use Rattle.view_commands.specs.declared.status.Status.TheVariants.{Words, Limit, NotYet}
 
@@ -19,7 +19,7 @@ drawn b lens = picture b (classes b []) (by_class lens)
 
 -- a `draw` of the survey of one name into the file of another, through a camera
 abbrev pub Draws : Bool → Said → Said → List ℕ → List ℕ → Lens → status.Status → Type 0
-Draws tells old new survey out lens ended = Makes tells old new survey out (λ b. drawn b lens) ended
+Draws tells old new survey out lens ended = MakesText tells old new survey out (λ b. drawn b lens) ended
 
 -- the camera in the words of a `draw`
 abbrev pub lens_in : List (List ℕ) → Lens

@@ -5,13 +5,13 @@ use Rattle.view_text.specs.ViewWords.{word_at}
 use Rattle.view_words.specs.CommandLine.{badword, IsLine}
 use Rattle.view_words.specs.declared.row.Row.TheVariants.{Info}
 use Rattle.view_ends.specs.Desk.{Said, Untouched}
-use Rattle.view_commands.specs.Made.{Makes}
+use Rattle.view_commands.specs.Made.{MakesText}
 use Rattle.view_commands.specs.declared.status.Status as status
 use Rattle.view_commands.specs.declared.status.Status.TheVariants.{Words}
 
 -- the words of an `info` that fit are answered by the info text of the survey
 abbrev pub Informs : Bool → Said → Said → List (List ℕ) → status.Status → Type 0
-Informs tells old new ws ended = Makes tells old new (word_at ws 1) (word_at ws 2) info_text ended
+Informs tells old new ws ended = MakesText tells old new (word_at ws 1) (word_at ws 2) info_text ended
 
 -- the words of a command line are answered as those of an `info`: by the first that is refused, or else as a line
 pub record AnswersInfo (tells : Bool) (old new : Said) (ws : List (List ℕ)) (ended : status.Status) : Type 0 where

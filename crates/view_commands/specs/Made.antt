@@ -17,7 +17,7 @@ abbrev pub IsSurvey : layout.Fault → status.Status → Type 0
 IsSurvey fault ended = (told : SurveyFault) × (ended ≡ Survey told) × (fault_of told ≡ fault)
 
 -- how a command over a survey of these bytes ends where nothing outside fails, with want of memory always free
-pub record Ends (b : List ℕ) (ended : status.Status) : Type 0 where
+pub record EndsCalmly (b : List ℕ) (ended : status.Status) : Type 0 where
   pub too_long : LIMIT < length b → (ended ≡ TooLong) ⊎ (ended ≡ Memory)
   pub not_laid : length b ≤ LIMIT → (fault : layout.Fault) → layout.fault b ≡ Some fault → IsSurvey fault ended ⊎ (ended ≡ Memory)
   pub laid : length b ≤ LIMIT → IsLaid b → (ended ≡ Done) ⊎ (ended ≡ Memory)
@@ -36,7 +36,7 @@ pub record WritesText (tells : Bool) (old new : Said) (out bytes : List ℕ) (en
 -- what a command makes of the survey of one name and writes into the file of another: how it ended, and what
 -- stands then. `text` is what it makes of a survey's bytes, and `tells` says whether the desk tells what its
 -- files hold
-pub record Makes (tells : Bool) (old new : Said) (survey out : List ℕ) (text : List ℕ → List ℕ) (ended : status.Status) : Type 0 where
+pub record MakesText (tells : Bool) (old new : Said) (survey out : List ℕ) (text : List ℕ → List ℕ) (ended : status.Status) : Type 0 where
   -- the text, where it is done, and what the file of the text holds otherwise
   pub done : ended ≡ Done → IsTrue tells → (b : List ℕ) × (old.file survey ≡ Some b) × IsLaid b × (new.file out ≡ Some (text b))
   pub front : ended ≡ WriteFault 2 → IsTrue tells → (Rose (old.unkept out) (new.unkept out) → ⊥)
@@ -58,4 +58,4 @@ pub record Makes (tells : Bool) (old new : Said) (survey out : List ℕ) (text :
   pub write_fault : (at : ℕ) → ended ≡ WriteFault at → (at ≡ 2) × Rose (old.writes out) (new.writes out)
   -- and how it ends where nothing outside failed
   pub settled : IsTrue tells → (b : List ℕ) → old.file survey ≡ Some b → (Rose (old.unopened survey) (new.unopened survey) → ⊥)
-      → (Rose (old.reads survey) (new.reads survey) → ⊥) → (Rose (old.writes out) (new.writes out) → ⊥) → Ends b ended
+      → (Rose (old.reads survey) (new.reads survey) → ⊥) → (Rose (old.writes out) (new.writes out) → ⊥) → EndsCalmly b ended

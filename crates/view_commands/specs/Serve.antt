@@ -8,8 +8,8 @@ use Rattle.view_meaning.specs.Layout.{IsLaid, fault}
 use Rattle.sessions.specs.declared.end.SessionEnd.{SessionEnd}
 use Rattle.sessions.specs.declared.end.Reason as reason
 use Rattle.sessions.specs.declared.end.Reason.TheVariants as why
-use Rattle.sessions.specs.declared.history.Entry.{Entry}
-use Rattle.sessions.specs.Histories.{journal, IsLegal, IsGivenBack, held}
+use Rattle.version_store.specs.declared.history.Entry.{Entry}
+use Rattle.version_store.specs.Histories.{journal, IsLegal, IsGivenBack, held}
 use Rattle.sessions.specs.Session as session
 use Rattle.sessions.specs.Session.{Served}
 use Rattle.view_ends.specs.Desk.{Said}

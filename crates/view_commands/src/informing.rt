@@ -1,7 +1,7 @@
 ghost use Rattle.std.specs.Prelude.{◌≡◌, ◌≤◌, length, IfOk};
 ghost use Rattle.survey_info.specs.Text as told;
 ghost use Rattle.view_commands.specs.Info.{AnswersInfo, Informs};
-ghost use Rattle.view_commands.specs.Made.{Makes, WritesText};
+ghost use Rattle.view_commands.specs.Made.{MakesText, WritesText};
 ghost use Rattle.view_words.specs.CommandLine.{IsLine, texts};
 
 use crate::files::{SurveyRefusal, read_survey};
@@ -38,7 +38,7 @@ pub(crate) fn info_line<D: Desk>(alloc: Global, words: &[String], desk: &mut D) 
 
 /// Writes the info text of the survey of one name into the file of another.
 fn info_file<D: Desk>(alloc: Global, name: &str, out: &str, desk: &mut D) -> Status
-    ensures { Makes D.tells (D.says desk.old) (D.says desk.new) name.now out.now told.info_text result }
+    ensures { MakesText D.tells (D.says desk.old) (D.says desk.new) name.now out.now told.info_text result }
 {
     match read_survey(alloc, desk, name) {
         Ok(survey) => info_survey(alloc, &survey, out, desk),

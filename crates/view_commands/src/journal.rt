@@ -1,5 +1,5 @@
 ghost use Rattle.std.specs.Prelude.{◌≡◌, ◌++◌, [], ◌∷◌, Some, IsTrue, IfOk, OnOk};
-ghost use Rattle.sessions.specs.Histories.{journal, edit_in};
+ghost use Rattle.version_store.specs.Histories.{journal, edit_in};
 ghost use Rattle.sessions.specs.Listening as listening;
 ghost use Rattle.view_ends.specs.Desk.{IsKnown};
 ghost use Rattle.view_commands.specs.Journal.{journal_text, Gives, WritesJournal};
@@ -52,7 +52,7 @@ fn give_journal<S: Sink>(alloc: Global, sink: &mut S, history: &[Entry]) -> Resu
 }
 
 /// The canonical line and LF of each edit that a history published, in order.
-#[tactic(auto, unfolding(crate::specs::Journal::journal_text, sessions::specs::Histories::journal))]
+#[tactic(auto, unfolding(crate::specs::Journal::journal_text, version_store::specs::Histories::journal))]
 fn journal_text(alloc: Global, history: &[Entry]) -> Result<Bytes, OutOfMemory>
     ensures { IfOk result (λ text. text.items ≡ journal_text (journal history.now)) }
 {

@@ -1,6 +1,6 @@
 ghost use Rattle.std.specs.Arc.{arc_value};
 ghost use Rattle.std.specs.Prelude.{◌≡◌, ◌≢◌, ◌≤◌, [], Some, IsTrue, length};
-ghost use Rattle.sessions.specs.Histories.{journal};
+ghost use Rattle.version_store.specs.Histories.{journal};
 ghost use Rattle.view_ends.specs.Desk.{IsKnown};
 ghost use Rattle.view_commands.specs.Journal.{journal_text};
 ghost use Rattle.view_commands.specs.Serve as serve;

@@ -1,5 +1,5 @@
 ghost use Rattle.std.specs.Prelude.{◌≡◌, ℕ, ◌+◌, ◌≤◌, ◌<◌, List, Option, length, take, IfOk, OnOk, OnErr};
-ghost use Rattle.view_ends.specs.Ends.{Rose, Leaves, Ended};
+ghost use Rattle.view_ends.specs.Ends.{Rose, Leaves, IsSpent};
 
 use crate::fault::Failed;
 
@@ -21,7 +21,7 @@ pub trait Source {
         ensures bytes { IfOk result (λ n. Leaves (left self.old) (take n buf.new) (left self.new)) }
         ensures fits { IfOk result (λ n. n ≤ length buf.old) }
         ensures count { IfOk result (λ n. taken self.new ≡ taken self.old + n) }
-        ensures end { IfOk result (λ n. n ≡ 0 → 0 < length buf.old → Ended (left self.new)) }
+        ensures end { IfOk result (λ n. n ≡ 0 → 0 < length buf.old → IsSpent (left self.new)) }
         ensures calm { OnOk result (faults self.new ≡ faults self.old) }
 
         ensures failed { OnErr result (Rose (faults self.old) (faults self.new)) }

@@ -51,9 +51,9 @@ unfoldable pub command_of : List ℕ → ℕ → Result command.Command refusal.
 command_of line format = command_of_words (words line) line format
 
 -- an edit of a command has a class that a point format has room for
-abbrev pub HasRoom : ℕ → command.Command → Type 0
-HasRoom format (Edit e) = e.to ≤ meaning.top_class format
-HasRoom format _ = Unit
+abbrev pub FitsFormat : ℕ → command.Command → Type 0
+FitsFormat format (Edit e) = e.to ≤ meaning.top_class format
+FitsFormat format _ = Unit
 
 -- a view of a command is one of all records by class
 abbrev pub IsByClass : command.Command → Type 0

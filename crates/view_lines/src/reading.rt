@@ -2,7 +2,7 @@ ghost use Rattle.std.specs.Prelude.{◌≡◌, ◌≤◌, IfOk};
 ghost use Rattle.view_base.specs.Text.{words};
 ghost use Rattle.view_text.specs.ViewWords.{view_of};
 ghost use Rattle.edit_ops.specs.EditLine.{edit_of};
-ghost use Rattle.view_lines.specs.Command.{viewed, edited, saved, command_of, HasRoom, IsByClass};
+ghost use Rattle.view_lines.specs.Command.{viewed, edited, saved, command_of, FitsFormat, IsByClass};
 
 use crate::command::Command;
 use crate::refusal::Refusal;
@@ -26,7 +26,7 @@ fn view_command(text: &[u8]) -> Result<Command, Refusal>
 fn edit_command(line: &[u8], format: u8) -> Result<Command, Refusal>
     requires { format ≤ 10 }
     ensures command { result ≡ edited (edit_of line.now format) }
-    ensures room { IfOk result (HasRoom format) }
+    ensures room { IfOk result (FitsFormat format) }
 {
     match read_edit(line, format) {
         Ok(edit) => Ok(Command::Edit(edit)),
@@ -53,7 +53,7 @@ fn save_command(rest: &[u8]) -> Result<Command, Refusal>
 pub fn read_command(line: &[u8], format: u8) -> Result<Command, Refusal>
     requires { format ≤ 10 }
     ensures command { result ≡ command_of line.now format }
-    ensures room { IfOk result (HasRoom format) }
+    ensures room { IfOk result (FitsFormat format) }
     ensures built { IfOk result IsByClass }
 {
     let Some((start, end)) = next_word(line, 0) else {

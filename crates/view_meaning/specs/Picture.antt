@@ -109,12 +109,12 @@ pub record IsNearest (b cs : List ℕ) (view : View) (x y i : ℕ) : Type 0 wher
       → (depth_of b view i < depth_of b view j) ⊎ ((depth_of b view i ≡ depth_of b view j) × (i ≤ j))
 
 -- no record passes and falls on a pixel
-abbrev pub NoneFalls : List ℕ → List ℕ → View → ℕ → ℕ → Type 0
-NoneFalls b cs view x y = (j : ℕ) → j < record_count b → IsTrue (is_candidate b cs view x y j) → ⊥
+abbrev pub NoneShows : List ℕ → List ℕ → View → ℕ → ℕ → Type 0
+NoneShows b cs view x y = (j : ℕ) → j < record_count b → IsTrue (is_candidate b cs view x y j) → ⊥
 
 -- a pixel shows its nearest record, or none where none falls on it
 abbrev pub Shows : List ℕ → List ℕ → View → ℕ → ℕ → Option ℕ → Type 0
-Shows b cs view x y None = NoneFalls b cs view x y
+Shows b cs view x y None = NoneShows b cs view x y
 Shows b cs view x y (Some i) = IsNearest b cs view x y i
 
 -- the view of all records by class

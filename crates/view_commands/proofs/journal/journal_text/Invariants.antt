@@ -1,5 +1,5 @@
 use Rattle.std.proofs.Common.{◌≡◌, take}
-use Rattle.sessions.specs.Histories.{journal}
+use Rattle.version_store.specs.Histories.{journal}
 use Rattle.view_commands.specs.Journal.{journal_text}
 use Rattle.view_commands.proofs.journal.journal_text.Given as goal
 

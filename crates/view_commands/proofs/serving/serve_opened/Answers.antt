@@ -2,7 +2,7 @@ use Rattle.std.proofs.Common.{rules, ◌≡◌, ◌∷◌, []}
 use Rattle.std.specs.Arc.{arc_value}
 use Rattle.view_ends.specs.Ends.{Rose, RoseBy}
 use Rattle.sessions.specs.declared.end.Reason.TheVariants.{ReadFault, WriteFault}
-use Rattle.sessions.proofs.Histories.{held_current}
+use Rattle.version_store.proofs.HistoryLaws.{held_current}
 use Rattle.view_ends.specs.Desk.{Said}
 use Rattle.view_commands.proofs.Counts.{end_cause, kept_finished}
 use Rattle.view_commands.proofs.OneSession.{one_ran}

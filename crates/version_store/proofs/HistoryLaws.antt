@@ -9,10 +9,10 @@ use Rattle.std.proofs.lemmas.Grind.{flat_map-append}
 use Rattle.std.proofs.lemmas.Option.{slice_get-get_or, slice_get_within}
 use Rattle.view_meaning.specs.Classes as meaning
 use Rattle.view_meaning.proofs.Nearest.{range_more}
-use Rattle.sessions.specs.declared.history.What.{What}
-use Rattle.sessions.specs.declared.history.What.TheVariants.{Publish, Pin, Unpin}
-use Rattle.sessions.specs.declared.history.Entry.{Entry}
-use Rattle.sessions.specs.Histories.{edit_in, journal, numbered, numbered_from, pins_of, unpins_of, pins, unpins, pins_out, IsLegal, IsGivenBack, held}
+use Rattle.version_store.specs.declared.history.What.{What}
+use Rattle.version_store.specs.declared.history.What.TheVariants.{Publish, Pin, Unpin}
+use Rattle.version_store.specs.declared.history.Entry.{Entry}
+use Rattle.version_store.specs.Histories.{edit_in, journal, numbered, numbered_from, pins_of, unpins_of, pins, unpins, pins_out, IsLegal, IsGivenBack, held}
 
 pub journal-append : (h more : List Entry) → journal (h ++ more) ≡ journal h ++ journal more
 unfolding journal

@@ -2,9 +2,9 @@
 use Rattle.std.specs.Prelude.{◌≡◌, ℕ, ◌+◌, ◌-◌, ◌<◌, ◌==◌, ◌&&◌, ◌||◌, nat_lt, Bool, true, false, List, [], ◌∷◌, length, map, filter, take, count_by, sum_by, Some, slice_get}
 use Rattle.std.specs.List.{range_with_len, flat_map}
 use Rattle.view_meaning.specs.Classes as meaning
-use Rattle.sessions.specs.declared.history.What.{What}
-use Rattle.sessions.specs.declared.history.What.TheVariants.{Publish, Pin, Unpin}
-use Rattle.sessions.specs.declared.history.Entry.{Entry}
+use Rattle.version_store.specs.declared.history.What.{What}
+use Rattle.version_store.specs.declared.history.What.TheVariants.{Publish, Pin, Unpin}
+use Rattle.version_store.specs.declared.history.Entry.{Entry}
 
 -- the edit that an entry publishes, or nothing
 abbrev pub edit_in : What → List meaning.Edit
