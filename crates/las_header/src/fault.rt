@@ -24,7 +24,7 @@ pub enum HeaderFault {
 
 impl fmt::Display for HeaderFault {
     ghost use Rattle.std.specs.Prelude.{Some};
-    ghost use Rattle.las_header.specs.Fault.{header_text};
+    ghost use Rattle.las_header.specs.FaultText.{header_text};
 
     ghost output = { λ fault. Some (header_text fault) };
 
