@@ -1,6 +1,8 @@
-ghost use Rattle.std.specs.Prelude.{◌≡◌, ℕ, ◌+◌, ◌-◌, ◌<◌, ◌≤◌, [], ◌∷◌, ◌++◌, List, Some, slice_get, length, take, IsOk, OnOk, OnErr};
+ghost use Rattle.std.specs.Prelude.{◌≡◌, ℕ, ◌+◌, ◌-◌, ◌<◌, ◌≤◌, [], ◌∷◌, ◌++◌, List, Some, slice_get, length, take, replicate, decimal, IsOk, OnOk, OnErr};
+ghost use Rattle.std.specs.Fmt.{signed_decimal};
 
 use crate::memory::OutOfMemory;
+use itoa::Buffer;
 use std::alloc::Global;
 use std::marker::Model;
 
@@ -51,20 +53,33 @@ impl<T: Drop> Listing<T> {
         self.list.as_slice()
     }
 
-    /// Appends one item. A refusal is want of memory and leaves the items as they were.
+    /// Appends one item. A refusal is want of memory and leaves the list as it was.
     pub fn push(&mut self, item: T) -> Result<(), OutOfMemory>
         ensures pushed { OnOk result (self.new.items ≡ self.old.items ++ item ∷ []) }
-        ensures refused { OnErr result (self.new.items ≡ self.old.items) }
+        ensures refused { OnErr result (self.new ≡ self.old) }
         ensures room { 1 ≤ self.old.spare → IsOk result }
         ensures spare { self.old.spare ≤ self.new.spare + 1 }
     {
-        self.list.push(item)?;
+        self.reserve(1)?;
+        self.push_within(item);
         Ok(())
     }
 
-    /// Makes room for `more` further items. A refusal is want of memory.
+    /// Appends one item within the room that the list has.
+    pub fn push_within(&mut self, item: T)
+        requires { 1 ≤ self.old.spare }
+        ensures pushed { self.new.items ≡ self.old.items ++ item ∷ [] }
+        ensures spare { self.old.spare ≤ self.new.spare + 1 }
+    {
+        self.list.push(item).unwrap();
+    }
+
+    /// Makes room for `more` further items. A refusal is want of memory and leaves the list as it
+    /// was.
     pub fn reserve(&mut self, more: usize) -> Result<(), OutOfMemory>
         ensures same { self.new.items ≡ self.old.items }
+        ensures refused { OnErr result (self.new ≡ self.old) }
+        ensures enough { more ≤ self.old.spare → IsOk result }
         ensures room { OnOk result (more ≤ self.new.spare) }
         ensures kept { self.old.spare ≤ self.new.spare }
     {
@@ -97,15 +112,55 @@ impl<T: Drop> Listing<T> {
 }
 
 impl<T: Copy> Listing<T> {
-    /// Appends a whole piece. A refusal is want of memory and leaves the items as they were.
+    /// Appends a whole piece. A refusal is want of memory and leaves the list as it was.
     pub fn append(&mut self, piece: &[T]) -> Result<(), OutOfMemory>
         ensures appended { OnOk result (self.new.items ≡ self.old.items ++ piece.now) }
-        ensures refused { OnErr result (self.new.items ≡ self.old.items) }
+        ensures refused { OnErr result (self.new ≡ self.old) }
         ensures room { length piece.now ≤ self.old.spare → IsOk result }
         ensures spare { self.old.spare ≤ self.new.spare + length piece.now }
     {
-        self.list.extend_from_slice(piece)?;
+        self.reserve(piece.len())?;
+        self.append_within(piece);
         Ok(())
+    }
+
+    /// Appends a whole piece within the room that the list has.
+    pub fn append_within(&mut self, piece: &[T])
+        requires { length piece.now ≤ self.old.spare }
+        ensures appended { self.new.items ≡ self.old.items ++ piece.now }
+        ensures spare { self.old.spare ≤ self.new.spare + length piece.now }
+    {
+        self.list.extend_from_slice(piece).unwrap();
+    }
+
+    /// Appends `count` copies of an item within the room that the list has.
+    pub fn extend_by(&mut self, count: usize, item: T)
+        requires { count ≤ self.old.spare }
+        ensures extended { self.new.items ≡ self.old.items ++ replicate count item }
+        ensures spare { self.old.spare ≤ self.new.spare + count }
+    {
+        self.list.resize(self.list.len() + count, item).unwrap();
+    }
+}
+
+impl Listing<u8> {
+    /// Appends the decimal digits of a number within the room that the list has.
+    pub fn append_decimal(&mut self, number: u64)
+        requires { length (decimal number) ≤ self.old.spare }
+        ensures appended { self.new.items ≡ self.old.items ++ decimal number }
+        ensures spare { self.old.spare ≤ self.new.spare + length (decimal number) }
+    {
+        self.append_within(Buffer::new().format(number).as_bytes());
+    }
+
+    /// Appends the decimal digits of a signed number, after a `-` where it is below 0, within the
+    /// room that the list has.
+    pub fn append_signed(&mut self, number: i64)
+        requires { length (signed_decimal number) ≤ self.old.spare }
+        ensures appended { self.new.items ≡ self.old.items ++ signed_decimal number }
+        ensures spare { self.old.spare ≤ self.new.spare + length (signed_decimal number) }
+    {
+        self.append_within(Buffer::new().format(number).as_bytes());
     }
 }
 
