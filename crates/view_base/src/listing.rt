@@ -1,5 +1,8 @@
-ghost use Rattle.std.specs.Prelude.{◌≡◌, ℕ, ◌+◌, ◌-◌, ◌<◌, ◌≤◌, [], ◌∷◌, ◌++◌, List, Some, slice_get, length, take, replicate, decimal, IsOk, OnOk, OnErr};
+ghost use Rattle.std.specs.Prelude.{◌≡◌, ℕ, ◌+◌, ◌-◌, ◌<◌, ◌≤◌, [], ◌∷◌, ◌++◌, List, Some, slice_get, length, take, drop, replicate, decimal, IsOk, OnOk, OnErr};
+ghost use Rattle.std.specs.Borrow.{Array, Lends, sem};
 ghost use Rattle.std.specs.Fmt.{signed_decimal};
+ghost use Rattle.view_base.specs.Listed.{with_tail};
+ghost use Rattle.view_base.specs.contracts.listing.Listing.{the_row};
 
 use crate::memory::OutOfMemory;
 use itoa::Buffer;
@@ -131,6 +134,16 @@ impl<T: Copy> Listing<T> {
         ensures spare { self.old.spare ≤ self.new.spare + length piece.now }
     {
         self.list.extend_from_slice(piece).unwrap();
+    }
+
+    /// The items from a place on, to be written in place. Afterwards the list has what the slice
+    /// was left with, and its room stays.
+    pub fn tail_mut(&mut self, from: usize) -> &mut [T]
+        requires { from ≤ length self.old.items }
+        ensures* writes_back { sem 𝓛 (Lends (the_row T.row) (Array T.row 0) self.entry result (with_tail self.old from)) }
+        ensures tail { result.now ≡ drop from self.old.items }
+    {
+        self.list.slice_mut(from..)
     }
 
     /// Appends `count` copies of an item within the room that the list has.
