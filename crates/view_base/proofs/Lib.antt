@@ -1,2 +1,4 @@
 pub mod Digits
 pub mod Words
+pub mod Listed
+pub mod Decimals
