@@ -5,6 +5,8 @@
 #[cfg(test)]
 mod breaking;
 #[cfg(test)]
+mod desks;
+#[cfg(test)]
 mod dialogue;
 #[cfg(test)]
 mod drawing;
