@@ -1,5 +1,5 @@
 use crate::desks::{File, Shelf, fill, leaves};
-use crate::plain::{ONE, Record, gapped, plain, plain_of, words};
+use crate::plain::{ONE, Record, gapped, patched, plain, plain_of, words};
 use std::alloc::Global;
 use std::process::Abort;
 use std::test::Fail;
@@ -88,6 +88,23 @@ fn what_is_out_of_view_does_not_show(rt: HostRuntime) -> Result<(), Fail> {
         draws_records(&rt, rt.alloc(), records, line, picture)?;
     }
     Ok(())
+}
+
+#[test]
+fn the_legacy_number_counts_where_the_other_is_0(rt: HostRuntime) -> Result<(), Fail> {
+    // The number of records, a u64 at 247, becomes 0; the legacy number, a u32 at 107, becomes 1.
+    let survey = plain(rt.alloc(), &[(0, 0, 5, 2)])?;
+    let without = patched(rt.alloc(), survey.as_slice(), 247, 0)?;
+    draws(&rt, rt.alloc(), without.as_slice(), ONE_PIXEL, NO_RECORD)?;
+    let legacy = patched(rt.alloc(), without.as_slice(), 107, 1)?;
+    draws(&rt, rt.alloc(), legacy.as_slice(), ONE_PIXEL, CLASS_2)
+}
+
+#[test]
+fn the_legacy_number_is_not_read_where_the_other_is_not_0(rt: HostRuntime) -> Result<(), Fail> {
+    let survey = plain(rt.alloc(), &[(0, 0, 5, 2)])?;
+    let both = patched(rt.alloc(), survey.as_slice(), 107, 2)?;
+    draws(&rt, rt.alloc(), both.as_slice(), ONE_PIXEL, CLASS_2)
 }
 
 /// The picture of 768 by 1 pixels has to be black but for its last, which shows class 2.

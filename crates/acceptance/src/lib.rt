@@ -3,6 +3,8 @@
 #![tactic(auto)]
 
 #[cfg(test)]
+mod ample;
+#[cfg(test)]
 mod breaking;
 #[cfg(test)]
 mod desks;
@@ -14,6 +16,8 @@ mod drawing;
 mod dripping;
 #[cfg(test)]
 mod failing;
+#[cfg(test)]
+mod leaving;
 #[cfg(test)]
 mod parts;
 #[cfg(test)]

@@ -104,6 +104,20 @@ fn append_record(
     Ok(())
 }
 
+/// These bytes, with another one at this place.
+pub(crate) fn patched(
+    alloc: Global,
+    bytes: &[u8],
+    at: usize,
+    byte: u8,
+) -> Result<Bytes, OutOfMemory> {
+    let mut patched = Bytes::new(alloc);
+    let front = bytes.get(..at).unwrap_or(&[]);
+    let end = bytes.get(at.saturating_add(1)..).unwrap_or(&[]);
+    append_all(&mut patched, &[front, &[byte], end])?;
+    Ok(patched)
+}
+
 /// The words of a line, cut at its blanks.
 pub(crate) fn words(alloc: Global, line: &str) -> Result<Vec<String>, AllocError> {
     let mut words = Vec::new(alloc);

@@ -48,6 +48,10 @@ fn refuses_words(rt: &impl Abort, alloc: Global, survey: &[u8]) -> Result<(), Fa
         ("paint a.las a.ppm", 0),
         ("info a.las", 2),
         ("info a.las a.las", 2),
+        ("serve a.las 1 j", 4),
+        ("serve a.las 1 j i", 5),
+        ("serve a.las 1 a.las i o", 3),
+        ("serve a.las 1 j i i", 5),
         (
             "draw a.las a.las 1 ortho 1 1 0 0 0 1 0 0 0 1 0 0 0 1 1 1 0 10 class all show",
             2,
