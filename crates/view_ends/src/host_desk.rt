@@ -5,7 +5,7 @@ use crate::desk::Desk;
 use crate::fault::EndFault;
 use crate::host_sink::{HostSink, Target};
 use crate::host_source::{HostSource, Origin};
-use crate::ledger::Ledger;
+use crate::ledger::{Counts, Ledger, NOTHING, OPENED};
 use std::alloc::Global;
 use std::fs;
 use std::fs::OpenFile;
@@ -104,37 +104,74 @@ where
     fn open_in(&mut self, name: &str) -> Result<HostSource<R::File, R::Reader>, EndFault> {
         self.ledger.enter(name)?;
         match self.input(name) {
-            Some(input) => Ok(input),
+            Some(input) => {
+                self.ledger.add(name, OPENED);
+                Ok(input)
+            }
             None => {
-                self.ledger.add_unopened(name);
+                self.ledger.add(
+                    name,
+                    Counts {
+                        unopened: 1,
+                        ..NOTHING
+                    },
+                );
                 Err(EndFault::Failed)
             }
         }
     }
 
+    #[tactic(auto, using(crate::proofs::Known::entered_if_known))]
     fn shut(&mut self, name: &str, input: HostSource<R::File, R::Reader>) {
-        self.ledger.add_taken(name, input.taken());
-        self.ledger.add_read_faults(name, input.faults());
+        let counts = Counts {
+            taken: input.taken(),
+            read_faults: input.faults(),
+            ..NOTHING
+        };
+        self.ledger.add(name, counts);
     }
 
     fn open_out(&mut self, name: &str) -> Result<HostSink<R::File, R>, EndFault> {
         self.ledger.enter(name)?;
         match self.target(name) {
-            Some(target) => Ok(HostSink::new(target)),
+            Some(target) => {
+                self.ledger.add(name, OPENED);
+                Ok(HostSink::new(target))
+            }
             None => {
-                self.ledger.add_write_faults(name, 1);
+                self.ledger.add(
+                    name,
+                    Counts {
+                        write_faults: 1,
+                        ..NOTHING
+                    },
+                );
                 Err(EndFault::Failed)
             }
         }
     }
 
+    #[tactic(auto, using(crate::proofs::Known::entered_if_known))]
     fn keep(&mut self, name: &str, mut out: HostSink<R::File, R>) -> Result<(), EndFault> {
-        self.ledger.add_write_faults(name, out.faults());
+        let faults = out.faults();
         if out.flush().is_err() {
-            self.ledger.add_write_faults(name, 1);
-            self.ledger.add_unkept(name);
+            self.ledger.add(
+                name,
+                Counts {
+                    write_faults: faults.saturating_add(1),
+                    unkept: 1,
+                    ..NOTHING
+                },
+            );
             return Err(EndFault::Failed);
         }
+        self.ledger.add(
+            name,
+            Counts {
+                write_faults: faults,
+                ..NOTHING
+            },
+        );
         Ok(())
     }
 }
