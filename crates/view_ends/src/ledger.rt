@@ -29,16 +29,35 @@ pub(crate) const NOTHING: Counts = Counts {
 
 /// A name that was opened.
 pub(crate) const OPENED: Counts = Counts {
-    unopened: 0,
-    read_faults: 0,
-    write_faults: 0,
-    taken: 0,
-    unkept: 0,
     known: true,
+    ..NOTHING
+};
+
+/// A name that could not be opened for reading.
+pub(crate) const UNOPENED: Counts = Counts {
+    unopened: 1,
+    ..NOTHING
+};
+
+/// A name that could not be opened for writing.
+pub(crate) const UNWRITTEN: Counts = Counts {
+    write_faults: 1,
+    ..NOTHING
 };
 
 impl Counts {
-    ghost use Rattle.view_ends.specs.Ledger.{AreCounts, plus};
+    ghost use Rattle.view_ends.specs.Ledger.{AreCounts, nothing_counted, plus};
+
+    /// The counts of an output that failed so often, and then could not be kept.
+    pub(crate) fn refused(faults: u64) -> Counts
+        ensures { result ≡ record nothing_counted { write_faults = min (faults + 1) (2 ^ 64 - 1); unkept = 1 } }
+    {
+        Counts {
+            write_faults: faults.saturating_add(1),
+            unkept: 1,
+            ..NOTHING
+        }
+    }
 
     /// These counts and what comes to them.
     fn plus(self, more: Counts) -> Counts

@@ -7,7 +7,7 @@ ghost use Rattle.view_ends.specs.Plans.{planned_on, Plan, PlansStay, NonePlanned
 use crate::desk::Desk;
 use crate::fault::EndFault;
 use crate::files::Files;
-use crate::ledger::{Counts, Ledger, NOTHING, OPENED};
+use crate::ledger::{Counts, Ledger, NOTHING, OPENED, UNOPENED, UNWRITTEN};
 use crate::mem_sink::MemSink;
 use crate::mem_source::MemSource;
 use crate::plans::{DeskCall, DeskPlans};
@@ -124,13 +124,7 @@ impl Desk for MemDesk {
                 Ok(MemSource::new(bytes, fail_at))
             }
             _ => {
-                self.ledger.add(
-                    name,
-                    Counts {
-                        unopened: 1,
-                        ..NOTHING
-                    },
-                );
+                self.ledger.add(name, UNOPENED);
                 Err(EndFault::Failed)
             }
         }
@@ -157,13 +151,7 @@ impl Desk for MemDesk {
     {
         self.ledger.enter(name)?;
         if self.plans.open_out.strike(name) {
-            self.ledger.add(
-                name,
-                Counts {
-                    write_faults: 1,
-                    ..NOTHING
-                },
-            );
+            self.ledger.add(name, UNWRITTEN);
             return Err(EndFault::Failed);
         }
         self.files.put(name, Bytes::new(self.alloc))?;
@@ -180,14 +168,7 @@ impl Desk for MemDesk {
     {
         let faults = out.faults();
         if self.plans.keep.strike(name) {
-            self.ledger.add(
-                name,
-                Counts {
-                    write_faults: faults.saturating_add(1),
-                    unkept: 1,
-                    ..NOTHING
-                },
-            );
+            self.ledger.add(name, Counts::refused(faults));
             return Err(EndFault::Failed);
         }
         // Only a name whose opening was refused has no file by now.

@@ -6,7 +6,7 @@ ghost use Rattle.view_ends.specs.Memory.{still_desk, still_sink, still_source};
 use crate::desk::Desk;
 use crate::fault::EndFault;
 use crate::files::Files;
-use crate::ledger::{Counts, Ledger, NOTHING, OPENED};
+use crate::ledger::{Counts, Ledger, NOTHING, OPENED, UNOPENED};
 use crate::still_sink::StillSink;
 use crate::still_source::StillSource;
 use std::alloc::Global;
@@ -78,13 +78,7 @@ impl Desk for StillDesk {
                 Ok(StillSource::new(bytes))
             }
             None => {
-                self.ledger.add(
-                    name,
-                    Counts {
-                        unopened: 1,
-                        ..NOTHING
-                    },
-                );
+                self.ledger.add(name, UNOPENED);
                 Err(EndFault::Failed)
             }
         }
