@@ -19,6 +19,7 @@ pub record Puts {E : Type 0} (old new : Said) (name bytes : List ℕ) (result : 
   pub put : OnOk result (new.file name ≡ Some bytes)
   pub others : OthersStay old.file new.file name
   pub refused : OnErr result (AllStay old.file new.file)
+  pub known : AllStay old.known new.known
   pub rest : Untouched (record old { file = new.file }) new
 
 -- an input that was opened on a file
@@ -40,6 +41,7 @@ pub record OpensIn {I : Type 0} (old new : Said) (name : List ℕ) (result : Res
   pub failed : IsErrOf result Failed → Rose (old.unopened name) (new.unopened name)
   pub calm : OnOk result (new.unopened name ≡ old.unopened name)
   pub memory : IsErrOf result Memory → new.unopened name ≡ old.unopened name
+  pub unknown : OnErr result (AllStay old.known new.known)
   pub others : OthersStay old.unopened new.unopened name
   pub later : NoneFalls old.unopened new.unopened
   pub rest : Untouched (record old { unopened = new.unopened }) new
@@ -62,6 +64,7 @@ pub record OpensOut {O : Type 0} (old new : Said) (name : List ℕ) (result : Re
   pub failed : IsErrOf result Failed → Rose (old.writes name) (new.writes name)
   pub calm : OnOk result (new.writes name ≡ old.writes name)
   pub memory : IsErrOf result Memory → new.writes name ≡ old.writes name
+  pub unknown : OnErr result (AllStay old.known new.known)
   pub others : OthersStay old.writes new.writes name
   pub later : NoneFalls old.writes new.writes
   pub rest : Untouched (record old { file = new.file; writes = new.writes }) new

@@ -1,4 +1,5 @@
 ghost use Rattle.std.specs.Prelude.{◌≡◌, ℕ, List, Some, None, OnOk, OnErr, IfOk, MatchOption};
+ghost use Rattle.std.specs.Option.{option_map};
 ghost use Rattle.view_ends.specs.Ends.{AllStay, OthersStay};
 
 use std::alloc::Global;
@@ -35,14 +36,16 @@ impl Files {
         }
     }
 
-    /// A copy of the bytes of a file. A name without a file has no copy, as where memory wants.
-    pub(crate) fn copy_of(&self, name: &str) -> Result<Bytes, OutOfMemory>
-        ensures { IfOk result (λ copy. file_of self.now name.now ≡ Some copy.items) }
+    /// A copy of the bytes of a file, and `None` where there is no such file.
+    pub(crate) fn copy_of(&self, name: &str) -> Result<Option<Bytes>, OutOfMemory>
+        ensures { IfOk result (λ copy. option_map (λ bytes. bytes.items) copy ≡ file_of self.now name.now) }
     {
-        let bytes = self.get(name).ok_or(OutOfMemory)?;
+        let Some(bytes) = self.get(name) else {
+            return Ok(None);
+        };
         let mut copy = Bytes::new(self.alloc);
         copy.append(bytes)?;
-        Ok(copy)
+        Ok(Some(copy))
     }
 
     /// Sets the bytes of a file, which need not be there. A refusal is want of memory.
