@@ -2,9 +2,10 @@ ghost use Rattle.std.specs.Prelude.{◌≡◌, ℕ, ◌+◌, ◌≤◌, ◌++◌
 ghost use Rattle.std.specs.Fmt.{signed_decimal};
 ghost use Rattle.std.specs.Int.{w32};
 ghost use Rattle.view_meaning.specs.Classes.{top_class};
+ghost use Rattle.view_base.specs.Text.{words};
 ghost use Rattle.edit_ops.specs.Edit.{IsPoint};
 ghost use Rattle.edit_ops.specs.EditLine.{edit_of};
-ghost use Rattle.edit_ops.specs.Canonical.{run_text, classes_text, canonical};
+ghost use Rattle.edit_ops.specs.EditLine.{run_text, classes_text, canonical};
 
 use crate::edit::Edit;
 use crate::runs::next_run;
@@ -27,7 +28,7 @@ pub fn edit_text(edit: &Edit, out: &mut Bytes) -> Result<(), OutOfMemory>
     ensures appended { OnOk result (out.new.items ≡ out.old.items ++ canonical edit.now) }
     ensures refused { OnErr result (out.new.items ≡ out.old.items) }
     ensures reads_back { OnOk result ((format : ℕ) → edit.now.to ≤ top_class format
-        → edit_of (canonical edit.now) format ≡ Ok edit.now) }
+        → edit_of (words (canonical edit.now)) format ≡ Ok edit.now) }
 {
     out.reserve(LINE)?;
     append(out, b"edit");

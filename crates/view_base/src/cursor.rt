@@ -131,6 +131,27 @@ impl<'a, F: Form> Cursor<'a, F> {
         }
     }
 
+    /// Takes the next word where it is this text, or names its place, where a word is missing too.
+    pub fn keyword(&mut self, text: &[u8]) -> Result<(), u32>
+        requires few { self.old.place < 100 }
+        requires early { F.whole self.old.place ≡ false }
+        requires kind { (word : List ℕ) → F.fits self.old.place word ≡ bytes_eq word text.now }
+        ensures source { self.new.source ≡ self.old.source }
+        ensures place { OnOk result (self.new.place ≡ self.old.place + 1) }
+        ensures misfit { IfErr result
+            (λ at. misfit F.fits F.whole (all_words self.old.source) ≡ Some at) }
+    {
+        let Some(word) = word_from(self.source, self.at) else {
+            return Err(self.place);
+        };
+        if word.text != text {
+            return Err(self.place);
+        }
+        self.at = word.end;
+        self.place += 1;
+        Ok(())
+    }
+
     /// Whether the next word is this text.
     pub fn is_next(&self, text: &[u8]) -> bool
         requires { 0 < length text.now }
