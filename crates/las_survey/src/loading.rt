@@ -1,4 +1,4 @@
-ghost use Rattle.std.specs.Prelude.{◌≡◌, ℕ, ◌+◌, ◌^◌, ◌≤◌, ◌<◌, List, length, Some, IfOk, IfSome, IsErrOf};
+ghost use Rattle.std.specs.Prelude.{◌≡◌, ℕ, ◌+◌, ◌^◌, ◌≤◌, ◌<◌, [], List, length, Some, IfOk, IfSome, IsErrOf};
 ghost use Rattle.las_survey.specs.Fault.{fault_of};
 ghost use Rattle.las_survey.specs.Loading.{TookAll};
 ghost use Rattle.view_ends.specs.Ends.{Rose};
@@ -83,7 +83,8 @@ impl From<EvlrFault> for LoadFault {
 }
 
 /// Takes all bytes of a source, and answers the survey that they are, or the first fault of their
-/// layout. It asks for no byte past the one that makes a survey too long.
+/// layout. It asks for no byte past the one that makes a survey too long, and makes its room once
+/// where the source says about how much is to come.
 pub fn load<S: Source>(alloc: Global, source: &mut S) -> Result<Survey, LoadFault>
     ensures took { IfOk result (λ survey. TookAll (S.left source.old) (S.taken source.old) survey (S.left source.new) (S.taken source.new)) }
     ensures laid { IfOk result IsLaid }
@@ -102,6 +103,17 @@ pub fn load<S: Source>(alloc: Global, source: &mut S) -> Result<Survey, LoadFaul
     Survey::of(alloc, bytes)
 }
 
+/// An empty list with room for the bytes that are expected, as far as a survey may have them. A
+/// refusal of memory for a guess is no answer: what comes may fit all the same.
+fn room_for(alloc: Global, expected: u64) -> Bytes
+    ensures { result.items ≡ [] }
+{
+    let mut bytes = Bytes::new(alloc);
+    match bytes.reserve(expected.min(LIMIT as u64) as usize) {
+        Ok(()) | Err(OutOfMemory) => bytes,
+    }
+}
+
 /// All bytes of a source, where they are few enough.
 fn taken_from<S: Source>(alloc: Global, source: &mut S) -> Result<Bytes, LoadFault>
     ensures took { IfOk result (λ bytes. TookAll (S.left source.old) (S.taken source.old) bytes.items (S.left source.new) (S.taken source.new)) }
@@ -116,7 +128,7 @@ fn taken_from<S: Source>(alloc: Global, source: &mut S) -> Result<Bytes, LoadFau
     ensures few { S.taken source.new ≤ S.taken source.old + (LIMIT + 1) }
     ensures no_more { (IsErrOf result LoadFault.TooLong → ⊥) → S.taken source.new ≤ S.taken source.old + LIMIT }
 {
-    let mut bytes = Bytes::new(alloc);
+    let mut bytes = room_for(alloc, source.expected());
     let mut piece = [0u8; PIECE];
     loop {
         let room = (LIMIT + 1 - bytes.len()).min(PIECE);
