@@ -91,12 +91,12 @@ serves-session tells old mid last new survey journal input output b left ended e
       taken = λ other apart. only.taken other apart ∙ opens.outputs.rest.taken other;
     } in
     let earlier = runs-earlier tells old last new journal input output b left ended end
-        (λ other. opens.outputs.rest.unopened other ∙ took.rest.unopened other)
-        (λ other. opens.outputs.rest.reads other ∙ took.rest.reads other)
-        (λ other. opens.outputs.rest.writes other ∙ took.rest.writes other)
-        (λ other. opens.outputs.rest.unkept other ∙ took.rest.unkept other)
-        (opens.outputs.rest.taken input ∙ took.others input (λ same. apart (sym same)))
-        (λ other apart too. opens.outputs.files other apart too ∙ took.rest.files other) runs in
+    (λ other. opens.outputs.rest.unopened other ∙ took.rest.unopened other)
+    (λ other. opens.outputs.rest.reads other ∙ took.rest.reads other)
+    (λ other. opens.outputs.rest.writes other ∙ took.rest.writes other)
+    (λ other. opens.outputs.rest.unkept other ∙ took.rest.unkept other)
+    (opens.outputs.rest.taken input ∙ took.others input (λ same. apart (sym same)))
+    (λ other apart too. opens.outputs.files other apart too ∙ took.rest.files other) runs in
     let session : RunsSession tells old new journal input output b (old.file input) ended end =
     subst (λ (o : Option (List ℕ)). RunsSession tells old new journal input output b o ended end) same_input earlier in
     record {

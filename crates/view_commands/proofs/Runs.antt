@@ -1,9 +1,12 @@
 -- A session's run: seen from an earlier state, and how its status comes.
-use Rattle.std.proofs.Common.{◌≡◌, ◌≢◌, ℕ, ◌+◌, ◌≤◌, List, Option, Some, None, Bool, length, take, refl, sym, ◌∙◌, ap, subst, arith, inl, inr}
+use Rattle.std.proofs.Common.{◌≡◌, ◌≢◌, ℕ, ◌+◌, ◌<◌, ◌≤◌, List, Option, Some, None, Bool, length, take, refl, sym, ◌∙◌, ap, subst, arith, inl, inr, Ok, Err}
 use Rattle.std.proofs.lemmas.List.{length-take}
 use Rattle.std.proofs.lemmas.Bool.Decides.{nat_tests}
-use Rattle.std.specs.Prelude.{◌⊎◌, ◌↔◌, min, IfSome}
-use Rattle.view_ends.specs.Desk.{Said}
+use Rattle.std.specs.Prelude.{◌⊎◌, ◌↔◌, min, IfSome, Result}
+use Rattle.sessions.specs.Listening.{Read, Wrote, reason_of}
+use Rattle.view_ends.specs.declared.fault.EndFault.{EndFault}
+use Rattle.view_ends.specs.declared.fault.EndFault.TheVariants as fault
+use Rattle.view_ends.specs.Desk.{Said, Shuts, Keeps}
 use Rattle.view_ends.specs.Ends.{Rose, RoseBy, AllStay}
 use Rattle.sessions.specs.declared.end.SessionEnd.{SessionEnd}
 use Rattle.sessions.specs.declared.end.Reason as reason
@@ -16,6 +19,7 @@ use Rattle.view_commands.specs.declared.places.TheConstants.{INPUT}
 use Rattle.view_commands.specs.declared.told.Ended as told
 use Rattle.view_commands.specs.Texts.{KeepsText}
 use Rattle.view_commands.specs.Serve.{RunsSession, RoseWhere, KeptSo, OtherFilesStay, IsCalm, status_of}
+use Rattle.view_commands.proofs.Counts.{rose_earlier, rose_from_none}
 use Rattle.view_commands.proofs.Written.{keeps-earlier}
 
 rose_where-earlier : (P : Type 0) (a b c : ℕ) → b ≡ a → RoseWhere P b c → RoseWhere P a c
@@ -54,6 +58,51 @@ runs-earlier tells old mid new journal input output b left ended end unopened re
   limit = runs.limit;
   files = λ other apart too. runs.files other apart too ∙ files other apart too;
 }
+
+-- what a session read, by what the input that was shut after it counts
+pub read-so : (old shut new : Said) (input : List ℕ) (taken before faults : ℕ) (reason : reason.Reason) → before ≡ 0 → Read before faults reason → Shuts old shut input taken faults → new.reads input ≡ shut.reads input
+    → RoseWhere (reason ≡ ReadFault) (old.reads input) (new.reads input)
+read-so old shut new input taken before faults reason fresh read shuts same = subst (λ (n : ℕ). RoseWhere (reason ≡ ReadFault) (old.reads input) n) (sym same) record {
+  rose = λ is. shuts.counted (rose_from_none faults (subst (λ (n : ℕ). Rose n faults) fresh (read.fault is)));
+  calm = λ not. shuts.calm (read.calm not ∙ fresh);
+}
+
+-- what came of keeping an output, seen from before its input was shut and after the journal was kept
+pub kept-so : (old shut last new : Said) (output : List ℕ) (got : Option (List ℕ)) (faults : ℕ) (kept : Result (Unit {0}) EndFault) → shut.unkept output ≡ old.unkept output → Keeps shut last output got faults kept
+    → new.unkept output ≡ last.unkept output → new.file output ≡ last.file output → KeptSo old new output got (reason_of kept)
+kept-so old shut last new output got faults (Ok _) before keeps unkept file = (file ∙ keeps.kept, unkept ∙ keeps.not_refused ∙ before)
+kept-so old shut last new output got faults (Err fault.Failed) before keeps unkept file =
+    subst (λ (n : ℕ). Rose n (new.unkept output)) before (subst (λ (n : ℕ). Rose (shut.unkept output) n) (sym unkept) keeps.refused)
+kept-so old shut last new output got faults (Err fault.Memory) before keeps unkept file =
+    subst (λ (n : ℕ). Rose n (new.unkept output)) before (subst (λ (n : ℕ). Rose (shut.unkept output) n) (sym unkept) keeps.refused)
+
+-- the count of an output's failed writes, by what it counts itself and what came of keeping it
+counted : (shut last : Said) (output : List ℕ) (got : Option (List ℕ)) (before faults : ℕ) (reason : reason.Reason) (kept : Result (Unit {0}) EndFault) → before ≡ 0 → Wrote before faults reason → Keeps shut last output got faults kept
+    → RoseWhere ((reason ≡ WriteFault) ⊎ (reason_of kept ≡ WriteFault)) (shut.writes output) (last.writes output)
+counted shut last output got before faults reason kept fresh wrote keeps = record {
+  rose = rose kept keeps;
+  calm = calm kept keeps;
+}
+  where
+    by_itself : reason ≡ WriteFault → 0 < faults
+    by_itself is = rose_from_none faults (subst (λ (n : ℕ). Rose n faults) fresh (wrote.fault is))
+
+    rose : (kept : Result (Unit {0}) EndFault) → Keeps shut last output got faults kept → (reason ≡ WriteFault) ⊎ (reason_of kept ≡ WriteFault) → Rose (shut.writes output) (last.writes output)
+    rose kept keeps (inl is) = keeps.counted (by_itself is)
+    rose (Ok _) keeps (inr is) = absurd (cc is)
+    rose (Err fault.Failed) keeps (inr is) = rose_earlier (shut.writes output) (shut.writes output + faults) (last.writes output) (omega arith) (keeps.failed refl)
+    rose (Err fault.Memory) keeps (inr is) = absurd (cc is)
+
+    calm : (kept : Result (Unit {0}) EndFault) → Keeps shut last output got faults kept → ((reason ≡ WriteFault) ⊎ (reason_of kept ≡ WriteFault) → ⊥) → last.writes output ≡ shut.writes output
+    calm (Ok _) keeps neither = keeps.calm (wrote.calm (λ is. neither (inl is)) ∙ fresh)
+    calm (Err fault.Failed) keeps neither = absurd (neither (inr refl))
+    calm (Err fault.Memory) keeps neither = keeps.memory refl (wrote.calm (λ is. neither (inl is)) ∙ fresh)
+
+pub wrote-so : (old shut last new : Said) (output : List ℕ) (got : Option (List ℕ)) (before faults : ℕ) (reason : reason.Reason) (kept : Result (Unit {0}) EndFault) → before ≡ 0 → Wrote before faults reason → Keeps shut last output got faults kept
+    → shut.writes output ≡ old.writes output → new.writes output ≡ last.writes output → RoseWhere ((reason ≡ WriteFault) ⊎ (reason_of kept ≡ WriteFault)) (old.writes output) (new.writes output)
+wrote-so old shut last new output got before faults reason kept fresh wrote keeps first second =
+    subst (λ (n : ℕ). RoseWhere ((reason ≡ WriteFault) ⊎ (reason_of kept ≡ WriteFault)) n (new.writes output)) first
+    (subst (λ (n : ℕ). RoseWhere ((reason ≡ WriteFault) ⊎ (reason_of kept ≡ WriteFault)) (shut.writes output) n) (sym second) (counted shut last output got before faults reason kept fresh wrote keeps))
 
 -- where the keeping of a name was not refused, its file is what its output got
 pub kept_file : (old new : Said) (name : List ℕ) (got : Option (List ℕ)) (kept : reason.Reason) → KeptSo old new name got kept → (Rose (old.unkept name) (new.unkept name) → ⊥) → new.file name ≡ got

@@ -9,10 +9,11 @@ use Rattle.sessions.specs.declared.end.Reason as reason
 use Rattle.sessions.specs.declared.end.Reason.TheVariants as why
 use Rattle.view_ends.specs.Desk.{Said}
 use Rattle.view_ends.specs.Ends.{Rose, RoseBy, AllStay, OthersStay}
+use Rattle.view_meaning.specs.Camera.{Lens}
 use Rattle.view_meaning.specs.Layout as layout
 use Rattle.view_meaning.specs.Layout.{IsLaid}
 use Rattle.view_commands.specs.Steps.{OnlyWrote}
-use Rattle.view_commands.specs.Texts.{IsRead, OnlyTook, NoSurvey, HoldsPart, KeepsText, Writes, Settles, SettlesFile, MakesText}
+use Rattle.view_commands.specs.Texts.{IsRead, OnlyTook, NoSurvey, HoldsPart, KeepsText, Writes, Settles, SettlesFile, MakesText, drawn}
 use Rattle.view_commands.specs.declared.status.Status as status
 use Rattle.view_commands.specs.declared.status.Status.TheVariants.{Done, Words, Limit, OpenFault, ReadFault, TooLong, Survey, WriteFault, SessionLimit, Memory, NotYet}
 use Rattle.view_commands.proofs.Counts.{same_said}
@@ -206,3 +207,11 @@ text-unmade tells old new survey out text b laid read took =
       unkept = λ name apart. refl;
       rest = same_said new;
     }
+
+-- a picture that was drawn under these names and through this camera, where they are others by an equation
+pub drawn-same : (tells : Bool) (old new : Said) (survey out of into : List ℕ) (lens by : Lens) (status : status.Status) → survey ≡ of → out ≡ into → lens ≡ by
+    → MakesText tells old new survey out (λ (b : List ℕ). drawn b lens) status → MakesText tells old new of into (λ (b : List ℕ). drawn b by) status
+drawn-same tells old new survey out of into lens by status of_is into_is by_is made =
+    subst (λ (name : List ℕ). MakesText tells old new name into (λ (b : List ℕ). drawn b by) status) of_is
+    (subst (λ (name : List ℕ). MakesText tells old new survey name (λ (b : List ℕ). drawn b by) status) into_is
+    (subst (λ (l : Lens). MakesText tells old new survey out (λ (b : List ℕ). drawn b l) status) by_is made))

@@ -117,7 +117,7 @@ pub record IsCalm (old new : Said) (journal input output : List ℕ) : Type 0 wh
 abbrev pub Goes : Bool → Said → Said → List ℕ → List ℕ → List ℕ → List ℕ → Ended → List SessionEnd → Type 0
 Goes tells old new survey journal input output ended [] = IsNothing ended.told × (new.taken input ≤ old.taken input)
     × (NoSurvey tells old new survey ended.status
-       ⊎ ((b : List ℕ) × IsLaid b × IsRead tells old new survey b × NotOpened tells old new journal input output ended.status))
+    ⊎ ((b : List ℕ) × IsLaid b × IsRead tells old new survey b × NotOpened tells old new journal input output ended.status))
 Goes tells old new survey journal input output ended (end ∷ []) =
     (b : List ℕ) × IsLaid b × IsRead tells old new survey b × RunsSession tells old new journal input output b (old.file input) ended end
 Goes tells old new survey journal input output ended _ = ⊥

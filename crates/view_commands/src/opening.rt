@@ -73,7 +73,9 @@ fn open_outputs<D: Desk>(desk: &mut D, names: Names) -> Result<Outputs<D::Out>, 
     ensures output_known { OnOk result (IsKnown (D.says desk.new) names.entry.output.now) }
     ensures journal_known { OnOk result (IsKnown (D.says desk.new) names.entry.journal.now) }
     ensures refused { IfErr result (λ status. NotOpened D.tells (D.says desk.old) (D.says desk.new) names.entry.journal.now names.entry.input.now names.entry.output.now status) }
-    ensures taken { OnErr result (AllStay (D.says desk.old).taken (D.says desk.new).taken) }
+    ensures unopened { AllStay (D.says desk.old).unopened (D.says desk.new).unopened }
+    ensures reads { AllStay (D.says desk.old).reads (D.says desk.new).reads }
+    ensures taken { AllStay (D.says desk.old).taken (D.says desk.new).taken }
     ensures known { NoneForgotten (IsKnown (D.says desk.old)) (IsKnown (D.says desk.new)) }
 {
     let output = match desk.open_out(names.output) {

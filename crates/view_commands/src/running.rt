@@ -56,7 +56,13 @@ fn serve_line<D: Desk, B: Beside>(
     if pair_count(words) != 1 {
         return Ended::only(alloc, Status::NotYet);
     }
-    serve(alloc, names_of(words), workers(Row::Serve, words), desk, beside)
+    serve(
+        alloc,
+        names_of(words),
+        workers(Row::Serve, words),
+        desk,
+        beside,
+    )
 }
 
 /// The names of a `serve` with one pair.

@@ -26,7 +26,7 @@ returns-in-Err-clause-only g c =
     let opened = c.in-Ok.ensures.desk in
     let shut = c.shut.ensures.desk in
     record {
-      unopened = ?;
-      reads = ?;
+      unopened = λ other apart. shut.rest.unopened other ∙ c.in-Err.ensures.unopened other ∙ opened.others other apart;
+      reads = λ other apart. shut.others other apart ∙ c.in-Err.ensures.reads other ∙ opened.rest.reads other;
       taken = λ other apart. shut.other_counts other apart ∙ c.in-Err.ensures.taken other ∙ opened.rest.taken other;
     }
