@@ -3,10 +3,13 @@ ghost use Rattle.std.specs.Prelude.{◌≤◌, None};
 use crate::plain::{ONE, plain};
 use las_survey::load;
 use plain_picture::Scene;
-use sessions::{History, Reason, serve_alone};
+use sessions::{Reason, SessionEnd, serve_alone};
+use std::alloc::Global;
 use std::cell::Cell;
+use std::process::Abort;
 use std::sync::Arc;
 use std::test::Fail;
+use version_store::History;
 use view_ends::{EndFault, Failed, NoBeside, Sink, Source, StillSource};
 
 /// Two lines of a user who waits for the answer to the first before the second is written.
@@ -63,33 +66,47 @@ impl<'a> Sink for Hearing<'a> {
     }
 }
 
-#[test]
-fn a_line_is_answered_before_the_next_is_asked_for(rt: HostRuntime) -> Result<(), Fail> {
-    let mut file = StillSource::new(plain(rt.alloc(), &ONE)?);
-    let survey = load(rt.alloc(), &mut file).expect(&rt, "a survey");
-    let scene = Scene {
-        survey: Arc::new(rt.alloc(), survey)?,
+/// A scene of one point, for one worker.
+fn scene(rt: &impl Abort, alloc: Global) -> Result<Scene, Fail> {
+    let mut file = StillSource::new(plain(alloc, &ONE)?);
+    let survey = load(alloc, &mut file).expect(rt, "a survey");
+    Ok(Scene {
+        survey: Arc::new(alloc, survey)?,
         workers: 1,
-    };
-    let heard = Cell::new(0);
+    })
+}
+
+/// A session has to have ended well, with two edits.
+fn made_two_edits(rt: &impl Abort, end: &SessionEnd, history: &History) {
+    assert_eq!(rt; end.reason, Reason::Finished);
+    assert_eq!(rt; end.marks.as_slice(), [1, 2].as_slice());
+    assert_eq!(rt; history.len(), 2);
+}
+
+/// Serves the user over a scene.
+fn serves(rt: &impl Abort, alloc: Global, scene: &Scene, heard: &Cell<u64>) {
     let mut source = Asking {
-        heard: &heard,
+        heard,
         at: 0,
         faults: 0,
     };
-    let mut sink = Hearing { heard: &heard };
-    let mut history = History::new(rt.alloc());
+    let mut sink = Hearing { heard };
+    let mut history = History::new(alloc);
     let end = serve_alone(
-        rt.alloc(),
-        &scene,
+        alloc,
+        scene,
         &mut history,
         &mut source,
         &mut sink,
         &NoBeside,
     );
-    assert_eq!(rt; end.reason, Reason::Finished);
-    assert_eq!(rt; end.marks.as_slice(), [1, 2].as_slice());
-    assert_eq!(rt; history.len(), 2);
+    made_two_edits(rt, &end, &history);
+}
+
+#[test]
+fn a_line_is_answered_before_the_next_is_asked_for(rt: HostRuntime) -> Result<(), Fail> {
+    let heard = Cell::new(0);
+    serves(&rt, rt.alloc(), &scene(&rt, rt.alloc())?, &heard);
     assert_eq!(rt; heard.get(), 22);
     Ok(())
 }

@@ -3,7 +3,11 @@
 #![tactic(auto)]
 
 #[cfg(test)]
+mod ample;
+#[cfg(test)]
 mod breaking;
+#[cfg(test)]
+mod desks;
 #[cfg(test)]
 mod dialogue;
 #[cfg(test)]
@@ -12,6 +16,8 @@ mod drawing;
 mod dripping;
 #[cfg(test)]
 mod failing;
+#[cfg(test)]
+mod leaving;
 #[cfg(test)]
 mod parts;
 #[cfg(test)]

@@ -1,5 +1,5 @@
 -- What a session answers.
-use Rattle.std.specs.Prelude.{ℕ, ◌-◌, List, [], ◌∷◌, ◌++◌, length, take, codes, decimal, Ok, Err}
+use Rattle.std.specs.Prelude.{ℕ, ◌-◌, List, ◌++◌, length, take, flat_map, zip, codes, decimal, Ok, Err}
 use Rattle.view_meaning.specs.Classes as meaning
 use Rattle.view_meaning.specs.Classes.{classes}
 use Rattle.view_meaning.specs.Picture.{picture}
@@ -31,6 +31,4 @@ reply b edits (Err refusal) v = codes "REFUSED " ++ decimal (refusal_code refusa
 
 -- the replies to items in order, each under its mark
 unfoldable pub replies : List ℕ → List meaning.Edit → List Item → List ℕ → List ℕ
-replies b edits [] marks = []
-replies b edits (item ∷ items) [] = []
-replies b edits (item ∷ items) (v ∷ marks) = reply b edits item v ++ replies b edits items marks
+replies b edits items marks = flat_map (λ (at : Item × ℕ). reply b edits at.0 at.1) (zip items marks)

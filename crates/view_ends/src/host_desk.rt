@@ -1,5 +1,5 @@
-ghost use Rattle.std.specs.Prelude.{◌≡◌, None, false};
-ghost use Rattle.view_ends.specs.Desk.{IsNew};
+ghost use Rattle.std.specs.Prelude.{◌≡◌, None, false, IfSome};
+ghost use Rattle.view_ends.specs.Calls.{IsNew};
 
 use crate::desk::Desk;
 use crate::fault::EndFault;
@@ -8,6 +8,7 @@ use crate::host_source::{HostSource, Origin};
 use crate::ledger::Ledger;
 use std::alloc::Global;
 use std::fs;
+use std::fs::OpenFile;
 use std::rt::Files;
 
 /// The name of standard input and of standard output.
@@ -41,22 +42,30 @@ where
     }
 }
 
+/// The length of a regular file, and 0 where the system tells none.
+fn length_of<F: OpenFile>(file: &F) -> u64 {
+    match file.metadata() {
+        Ok(about) if about.is_file() => about.len(),
+        _ => 0,
+    }
+}
+
 impl<R: Files + Input + Print + Copy> HostDesk<R> {
     /// Opens a name for reading, and answers `None` where that failed.
-    fn origin(&mut self, name: &str) -> Option<Origin<R::File, R::Reader>>
-        ensures { self.new.ledger ≡ self.old.ledger }
+    fn input(&mut self, name: &str) -> Option<HostSource<R::File, R::Reader>>
+        ensures ledger { self.new.ledger ≡ self.old.ledger }
+        ensures fresh { IfSome result (λ input. (input.taken ≡ 0) × (input.faults ≡ 0)) }
     {
         if name != STANDARD {
-            return match fs::open(&self.rt, name) {
-                Ok(file) => Some(Origin::File(file)),
-                Err(_) => None,
-            };
+            let file = fs::open(&self.rt, name).ok()?;
+            let length = length_of(&file);
+            return Some(HostSource::new(Origin::File(file), length));
         }
         if self.input_opened {
             return None;
         }
         self.input_opened = true;
-        Some(Origin::Standard(self.rt.reader()))
+        Some(HostSource::new(Origin::Standard(self.rt.reader()), 0))
     }
 
     /// Opens a name for writing, as an empty file, and answers `None` where that failed.
@@ -94,8 +103,8 @@ where
 
     fn open_in(&mut self, name: &str) -> Result<HostSource<R::File, R::Reader>, EndFault> {
         self.ledger.enter(name)?;
-        match self.origin(name) {
-            Some(origin) => Ok(HostSource::new(origin)),
+        match self.input(name) {
+            Some(input) => Ok(input),
             None => {
                 self.ledger.add_unopened(name);
                 Err(EndFault::Failed)

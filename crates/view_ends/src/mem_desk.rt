@@ -1,5 +1,6 @@
 ghost use Rattle.std.specs.Prelude.{◌≡◌, Some, None, true, MatchOption};
-ghost use Rattle.view_ends.specs.Desk.{IsNew, Puts, Untouched};
+ghost use Rattle.view_ends.specs.Calls.{IsNew, Puts};
+ghost use Rattle.view_ends.specs.Desk.{Untouched};
 
 use crate::desk::Desk;
 use crate::fault::EndFault;

@@ -61,6 +61,10 @@ impl Source for MemSource {
         let n = self.still.take(&mut buf[..most])?;
         Ok(n)
     }
+
+    fn expected(&self) -> u64 {
+        self.still.expected()
+    }
 }
 
 #[cfg(test)]

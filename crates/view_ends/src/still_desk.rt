@@ -1,5 +1,5 @@
 ghost use Rattle.std.specs.Prelude.{◌≡◌, Some, None, true, MatchOption};
-ghost use Rattle.view_ends.specs.Desk.{IsNew, Puts};
+ghost use Rattle.view_ends.specs.Calls.{IsNew, Puts};
 
 use crate::desk::Desk;
 use crate::fault::EndFault;

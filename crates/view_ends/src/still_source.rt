@@ -51,4 +51,8 @@ impl Source for StillSource {
         self.at += n;
         Ok(n)
     }
+
+    fn expected(&self) -> u64 {
+        self.rest().len() as u64
+    }
 }
