@@ -6,7 +6,7 @@ use Rattle.view_meaning.specs.Classes as meaning
 use Rattle.version_store.specs.declared.history.Entry.{Entry}
 use Rattle.version_store.specs.Histories.{journal, edit_in}
 use Rattle.version_store.proofs.HistoryLaws.{journal-append}
-use Rattle.view_commands.specs.Journal.{journal_text}
+use Rattle.view_commands.specs.Serve.{journal_text}
 
 pub journal_text-append : (edits more : List meaning.Edit) → journal_text (edits ++ more) ≡ journal_text edits ++ journal_text more
 unfolding journal_text

@@ -1,8 +1,9 @@
-pub mod Endings
-pub mod Rows
+pub mod Counts
 pub mod Taken
+pub mod Written
+pub mod Rows
 pub mod Lines
 pub mod JournalText
-pub mod Counts
+pub mod Opened
 pub mod Runs
 pub mod OneSession

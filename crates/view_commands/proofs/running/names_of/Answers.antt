@@ -3,7 +3,7 @@ use Rattle.std.proofs.lemmas.List.{length-map}
 use Rattle.std.specs.Prelude.{string_bytes}
 use Rattle.view_words.specs.CommandLine.{texts}
 use Rattle.view_commands.proofs.Lines.{survey_and_input, journal_and_output}
-use Rattle.view_commands.proofs.serving.names_of.Goals as goal
+use Rattle.view_commands.proofs.running.names_of.Goals as goal
 
 pub returns-clause-read : goal.returns-clause-read
 returns-clause-read c = λ same.
