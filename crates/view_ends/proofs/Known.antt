@@ -1,5 +1,5 @@
 -- A name that is known is entered.
-use Rattle.std.proofs.Common.{ℕ, List, Option, Some, None, IsTrue, IsSome, unwrap_or, refl}
+use Rattle.std.proofs.Common.{ℕ, Bool, true, false, ◌&&◌, List, Option, Some, None, IsTrue, IsSome, unwrap_or, refl}
 use Rattle.std.specs.BTreeMap.{get_by_text}
 use Rattle.std.proofs.lemmas.Bool.{false≢true}
 use Rattle.view_ends.specs.declared.ledger.Counts.{Counts}
@@ -12,3 +12,8 @@ some_if_known (Some counts) known = refl
 
 pub entered_if_known : (ledger : Ledger) (name : List ℕ) → IsTrue (counts_of ledger name).known → IsEntered ledger name
 entered_if_known ledger name known = some_if_known (get_by_text ledger.counts name) known
+
+pub known_and_filed : (known filed : Bool) → IsTrue (known && filed) → IsTrue known × IsTrue filed
+known_and_filed true true both = (refl, refl)
+known_and_filed true false both = absurd (false≢true both)
+known_and_filed false filed both = absurd (false≢true both)

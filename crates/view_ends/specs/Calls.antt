@@ -19,7 +19,7 @@ pub record Puts {E : Type 0} (old new : Said) (name bytes : List ℕ) (result : 
   pub put : OnOk result (new.file name ≡ Some bytes)
   pub others : OthersStay old.file new.file name
   pub refused : OnErr result (AllStay old.file new.file)
-  pub known : AllStay old.known new.known
+  pub unknown : OnErr result (AllStay old.known new.known)
   pub rest : Untouched (record old { file = new.file }) new
 
 -- an input that was opened on a file

@@ -1,4 +1,4 @@
-ghost use Rattle.std.specs.Prelude.{◌≡◌, ℕ, List, Some, None, OnOk, OnErr, IfOk, MatchOption};
+ghost use Rattle.std.specs.Prelude.{IsSome, ◌≡◌, ℕ, List, Some, None, OnOk, OnErr, IfOk, MatchOption};
 ghost use Rattle.std.specs.Option.{option_map};
 ghost use Rattle.view_ends.specs.Ends.{AllStay, OthersStay};
 
@@ -60,21 +60,15 @@ impl Files {
         Ok(())
     }
 
-    /// Sets the bytes of a file that is there, which takes no memory, and is refused for a name
-    /// that has no file.
+    /// Sets the bytes of a file that is there, which takes no memory.
     #[tactic(auto, using(std::proofs::lemmas::Map::Text::text_keys))]
-    pub(crate) fn replace(&mut self, name: &str, bytes: Bytes) -> Result<(), OutOfMemory>
-        ensures put { OnOk result (file_of self.new name.now ≡ Some bytes.items) }
+    pub(crate) fn replace(&mut self, name: &str, bytes: Bytes)
+        requires { IsSome (file_of self.old name.now) }
+        ensures put { file_of self.new name.now ≡ Some bytes.items }
         ensures others { OthersStay (file_of self.old) (file_of self.new) name.now }
-        ensures absent { OnErr result (file_of self.old name.now ≡ None) }
-        ensures refused { OnErr result (AllStay (file_of self.old) (file_of self.new)) }
     {
-        match self.files.get_mut(name) {
-            Some(kept) => {
-                *kept = bytes;
-                Ok(())
-            }
-            None => Err(OutOfMemory),
+        if let Some(kept) = self.files.get_mut(name) {
+            *kept = bytes;
         }
     }
 }

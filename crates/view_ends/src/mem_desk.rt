@@ -130,7 +130,7 @@ impl Desk for MemDesk {
         }
     }
 
-    #[tactic(auto, using(crate::proofs::Known::entered_if_known))]
+    #[tactic(auto, using(crate::proofs::Known::known_and_filed))]
     fn shut(&mut self, name: &str, input: MemSource)
         requires { IsKnown (mem_desk self.old) name.now }
         ensures desk { Shuts (mem_desk self.old) (mem_desk self.new) name.now (mem_source input).taken (mem_source input).faults }
@@ -160,7 +160,7 @@ impl Desk for MemDesk {
         Ok(MemSink::new(self.alloc, fail_at))
     }
 
-    #[tactic(auto, using(crate::proofs::Known::entered_if_known))]
+    #[tactic(auto, using(crate::proofs::Known::known_and_filed))]
     fn keep(&mut self, name: &str, out: MemSink) -> Result<(), EndFault>
         requires { IsKnown (mem_desk self.old) name.now }
         ensures desk { Keeps (mem_desk self.old) (mem_desk self.new) name.now (mem_sink out).got (mem_sink out).faults result }
@@ -171,25 +171,12 @@ impl Desk for MemDesk {
             self.ledger.add(name, Counts::refused(faults));
             return Err(EndFault::Failed);
         }
-        // Only a name whose opening was refused has no file by now.
-        if self.files.replace(name, out.into_bytes()).is_err() {
-            self.ledger.add(
-                name,
-                Counts {
-                    write_faults: faults,
-                    unkept: 1,
-                    ..NOTHING
-                },
-            );
-            return Err(EndFault::Memory);
-        }
-        self.ledger.add(
-            name,
-            Counts {
-                write_faults: faults,
-                ..NOTHING
-            },
-        );
+        self.files.replace(name, out.into_bytes());
+        let counts = Counts {
+            write_faults: faults,
+            ..NOTHING
+        };
+        self.ledger.add(name, counts);
         Ok(())
     }
 }

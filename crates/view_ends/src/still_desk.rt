@@ -1,4 +1,4 @@
-ghost use Rattle.std.specs.Prelude.{◌≡◌, Some, None, true, MatchOption, IfOk, OnOk, IsSome, IsTrue, IsErrOf};
+ghost use Rattle.std.specs.Prelude.{◌≡◌, Some, None, true, MatchOption, IfOk, OnOk, IsSome, IsTrue, IsErrOf, IsOk};
 ghost use Rattle.view_ends.specs.Calls.{IsNew, Puts, IsFreshIn, IsFreshOut, OpensIn, OpensOut, Keeps};
 ghost use Rattle.view_ends.specs.Desk.{IsKnown};
 ghost use Rattle.view_ends.specs.Memory.{still_desk, still_sink, still_source};
@@ -13,7 +13,8 @@ use std::alloc::Global;
 use view_base::{Bytes, OutOfMemory};
 
 /// Files by name in memory. Only the opening of a name that has no file fails; whatever else is
-/// refused is refused for want of memory.
+/// refused is refused for want of memory. So no count but that of bytes taken rises while every
+/// name that is read is there.
 #[derive(Drop)]
 pub struct StillDesk {
     alloc: Global,
@@ -84,7 +85,7 @@ impl Desk for StillDesk {
         }
     }
 
-    #[tactic(auto, using(crate::proofs::Known::entered_if_known))]
+    #[tactic(auto, using(crate::proofs::Known::known_and_filed))]
     fn shut(&mut self, name: &str, input: StillSource) {
         self.ledger.add(
             name,
@@ -106,23 +107,13 @@ impl Desk for StillDesk {
         Ok(StillSink::new(self.alloc))
     }
 
-    #[tactic(auto, using(crate::proofs::Known::entered_if_known))]
+    #[tactic(auto, using(crate::proofs::Known::known_and_filed))]
     fn keep(&mut self, name: &str, out: StillSink) -> Result<(), EndFault>
         requires { IsKnown (still_desk self.old) name.now }
         ensures desk { Keeps (still_desk self.old) (still_desk self.new) name.now (still_sink out).got (still_sink out).faults result }
-        ensures never { ¬ IsErrOf result EndFault.Failed }
+        ensures never { IsOk result }
     {
-        // Only a name whose opening was refused has no file by now.
-        if self.files.replace(name, out.into_bytes()).is_err() {
-            self.ledger.add(
-                name,
-                Counts {
-                    unkept: 1,
-                    ..NOTHING
-                },
-            );
-            return Err(EndFault::Memory);
-        }
+        self.files.replace(name, out.into_bytes());
         Ok(())
     }
 }
