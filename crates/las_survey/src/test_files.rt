@@ -53,7 +53,8 @@ pub const EMPTY_1_2: Fields = Fields {
 /// Appends a header: 375 bytes for minor version 4, 235 for 3, and 227 for all others. Its bytes
 /// that are not read are 0.
 pub fn append_header(bytes: &mut Bytes, fields: &Fields) -> Result<(), OutOfMemory> {
-    append_front(bytes, fields)?;
+    append_start(bytes, fields)?;
+    append_counts(bytes, fields)?;
     match fields.minor {
         4 => append_back(bytes, fields),
         3 => bytes.append(&[0; 124]),
@@ -61,13 +62,17 @@ pub fn append_header(bytes: &mut Bytes, fields: &Fields) -> Result<(), OutOfMemo
     }
 }
 
-/// Appends the first 111 bytes of a header, which each version has.
-fn append_front(bytes: &mut Bytes, fields: &Fields) -> Result<(), OutOfMemory> {
+/// Appends the first 96 bytes of a header.
+fn append_start(bytes: &mut Bytes, fields: &Fields) -> Result<(), OutOfMemory> {
     bytes.append(&fields.signature)?;
     bytes.append(&[0; 20])?;
     bytes.append(&[fields.major, fields.minor])?;
     bytes.append(&[0; 68])?;
-    bytes.append(&fields.size.to_le_bytes())?;
+    bytes.append(&fields.size.to_le_bytes())
+}
+
+/// Appends the 15 bytes of a header after those, the last that each version has.
+fn append_counts(bytes: &mut Bytes, fields: &Fields) -> Result<(), OutOfMemory> {
     bytes.append(&fields.points_at.to_le_bytes())?;
     bytes.append(&fields.vlrs.to_le_bytes())?;
     bytes.append(&[fields.format])?;

@@ -28,25 +28,25 @@ pub fn is_loaded(
     evlrs: &[VlrPlace],
 ) {
     match loaded(alloc, file) {
-        Ok(survey) => holds(rt, &survey, file, header, vlrs, evlrs),
+        Ok(survey) => {
+            holds(rt, &survey, file, header);
+            has_places(rt, &survey, vlrs, evlrs);
+        }
         Err(fault) => assert_eq!(rt; Some(fault), None),
     }
 }
 
-/// A survey has these bytes, fields and places.
-fn holds(
-    rt: &impl Abort,
-    survey: &Survey,
-    file: &[u8],
-    header: &Header,
-    vlrs: &[VlrPlace],
-    evlrs: &[VlrPlace],
-) {
+/// A survey has these bytes and fields.
+fn holds(rt: &impl Abort, survey: &Survey, file: &[u8], header: &Header) {
     assert_eq!(rt; survey.bytes(), file);
     assert_eq!(rt; *survey.header(), *header);
+    assert_eq!(rt; u64::from(survey.records()), header.records);
+}
+
+/// A survey has these places of variable length records and of extended ones.
+fn has_places(rt: &impl Abort, survey: &Survey, vlrs: &[VlrPlace], evlrs: &[VlrPlace]) {
     assert_eq!(rt; survey.vlrs().as_slice(), vlrs);
     assert_eq!(rt; survey.evlrs().as_slice(), evlrs);
-    assert_eq!(rt; u64::from(survey.records()), header.records);
 }
 
 /// The file of a header and what follows it.
@@ -78,113 +78,127 @@ pub fn found_in_header(fault: HeaderFault) -> Option<LoadFault> {
     found(SurveyFault::Header(fault))
 }
 
+/// Headers of LAS 1.4, and the condition that each does not meet.
+const CONDITIONS: [(Fields, HeaderFault); 8] = [
+    (
+        Fields {
+            signature: *b"LASf",
+            ..EMPTY
+        },
+        HeaderFault::Signature,
+    ),
+    (
+        Fields { size: 374, ..EMPTY },
+        HeaderFault::HeaderSize { size: 374 },
+    ),
+    (
+        Fields {
+            format: 128,
+            ..EMPTY
+        },
+        HeaderFault::Compressed { byte: 128 },
+    ),
+    (
+        Fields {
+            format: 134,
+            ..EMPTY
+        },
+        HeaderFault::Compressed { byte: 134 },
+    ),
+    (
+        Fields {
+            format: 127,
+            ..EMPTY
+        },
+        HeaderFault::Format { byte: 127 },
+    ),
+    (
+        Fields {
+            format: 11,
+            ..EMPTY
+        },
+        HeaderFault::Format { byte: 11 },
+    ),
+    (
+        Fields {
+            format: 3,
+            length: 33,
+            ..EMPTY
+        },
+        HeaderFault::RecordLength {
+            have: 33,
+            least: 34,
+        },
+    ),
+    (
+        Fields {
+            points_at: 374,
+            ..EMPTY
+        },
+        HeaderFault::Offset { offset: 374 },
+    ),
+];
+
 #[test]
 fn each_condition_on_the_header_has_its_fault(rt: HostRuntime) {
-    let signature = *b"LASf";
-    let (have, least) = (33, 34);
-    for (fields, fault) in [
-        (Fields { signature, ..EMPTY }, HeaderFault::Signature),
-        (
-            Fields { size: 374, ..EMPTY },
-            HeaderFault::HeaderSize { size: 374 },
-        ),
-        (
-            Fields {
-                format: 128,
-                ..EMPTY
-            },
-            HeaderFault::Compressed { byte: 128 },
-        ),
-        (
-            Fields {
-                format: 134,
-                ..EMPTY
-            },
-            HeaderFault::Compressed { byte: 134 },
-        ),
-        (
-            Fields {
-                format: 127,
-                ..EMPTY
-            },
-            HeaderFault::Format { byte: 127 },
-        ),
-        (
-            Fields {
-                format: 11,
-                ..EMPTY
-            },
-            HeaderFault::Format { byte: 11 },
-        ),
-        (
-            Fields {
-                format: 3,
-                length: have,
-                ..EMPTY
-            },
-            HeaderFault::RecordLength { have, least },
-        ),
-        (
-            Fields {
-                points_at: 374,
-                ..EMPTY
-            },
-            HeaderFault::Offset { offset: 374 },
-        ),
-    ] {
+    for (fields, fault) in CONDITIONS {
         let want = found_in_header(fault);
         assert_eq!(rt; refusal(rt.alloc(), &fields, &[]), want);
     }
 }
 
+/// Headers of several versions, and the condition that each does not meet: a wrong signature is told
+/// before the version, and the version before the header's bytes.
+const VERSIONS: [(Fields, HeaderFault); 6] = [
+    (
+        Fields {
+            signature: *b"LASf",
+            minor: 1,
+            ..EMPTY
+        },
+        HeaderFault::Signature,
+    ),
+    (
+        Fields {
+            major: 2,
+            ..EMPTY_1_2
+        },
+        HeaderFault::Version { major: 2, minor: 2 },
+    ),
+    (
+        Fields {
+            minor: 1,
+            ..EMPTY_1_2
+        },
+        HeaderFault::Version { major: 1, minor: 1 },
+    ),
+    (
+        Fields {
+            minor: 5,
+            size: 226,
+            ..EMPTY_1_2
+        },
+        HeaderFault::Version { major: 1, minor: 5 },
+    ),
+    (
+        Fields {
+            size: 226,
+            ..EMPTY_1_2
+        },
+        HeaderFault::HeaderSize { size: 226 },
+    ),
+    (
+        Fields {
+            size: 234,
+            ..EMPTY_1_3
+        },
+        HeaderFault::HeaderSize { size: 234 },
+    ),
+];
+
 #[test]
 fn each_version_has_its_least_header(rt: HostRuntime) {
-    let signature = *b"LASf";
-    let (major, minor) = (2, 2);
-    for (fields, fault) in [
-        // A wrong signature is told before the version, and the version before the header's bytes.
-        (
-            Fields {
-                signature,
-                minor,
-                ..EMPTY
-            },
-            HeaderFault::Signature,
-        ),
-        (
-            Fields { major, ..EMPTY_1_2 },
-            HeaderFault::Version { major, minor },
-        ),
-        (
-            Fields {
-                minor: 1,
-                ..EMPTY_1_2
-            },
-            HeaderFault::Version { major: 1, minor: 1 },
-        ),
-        (
-            Fields {
-                minor: 5,
-                size: 226,
-                ..EMPTY_1_2
-            },
-            HeaderFault::Version { major: 1, minor: 5 },
-        ),
-        (
-            Fields {
-                size: 226,
-                ..EMPTY_1_2
-            },
-            HeaderFault::HeaderSize { size: 226 },
-        ),
-        (
-            Fields {
-                size: 234,
-                ..EMPTY_1_3
-            },
-            HeaderFault::HeaderSize { size: 234 },
-        ),
-    ] {
+    for (fields, fault) in VERSIONS {
         let want = found_in_header(fault);
         assert_eq!(rt; refusal(rt.alloc(), &fields, &[]), want);
     }
@@ -353,8 +367,14 @@ fn a_record_before_the_points_leaves_a_gap_or_is_refused(rt: HostRuntime) -> Res
     Ok(())
 }
 
+/// A fault is printed so.
+fn is_text(rt: &impl Abort, alloc: Global, fault: &SurveyFault, text: &str) -> Result<(), Fail> {
+    assert_eq!(rt; format!(in alloc; "{fault}")?.as_str(), text);
+    Ok(())
+}
+
 #[test]
-fn each_fault_has_its_text(rt: HostRuntime) -> Result<(), Fail> {
+fn each_fault_of_a_header_has_its_text(rt: HostRuntime) -> Result<(), Fail> {
     let (have, least) = (33, 34);
     for (fault, text) in [
         (HeaderFault::TooShort { have: 374 }, "only 374 bytes"),
@@ -372,9 +392,13 @@ fn each_fault_has_its_text(rt: HostRuntime) -> Result<(), Fail> {
         ),
         (HeaderFault::Offset { offset: 374 }, "point offset 374"),
     ] {
-        let fault = SurveyFault::Header(fault);
-        assert_eq!(rt; format!(in rt.alloc(); "{fault}")?.as_str(), text);
+        is_text(&rt, rt.alloc(), &SurveyFault::Header(fault), text)?;
     }
+    Ok(())
+}
+
+#[test]
+fn each_fault_of_a_part_has_its_text(rt: HostRuntime) -> Result<(), Fail> {
     let (need, have) = (395, 394);
     for (fault, text) in [
         (SurveyFault::Vlr { k: 0, at: 375 }, "VLR 0 at 375"),
@@ -384,7 +408,7 @@ fn each_fault_has_its_text(rt: HostRuntime) -> Result<(), Fail> {
         ),
         (SurveyFault::Evlr { k: 2, at: 495 }, "EVLR 2 at 495"),
     ] {
-        assert_eq!(rt; format!(in rt.alloc(); "{fault}")?.as_str(), text);
+        is_text(&rt, rt.alloc(), &fault, text)?;
     }
     Ok(())
 }
