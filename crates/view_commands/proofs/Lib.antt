@@ -1,5 +1,4 @@
 pub mod Counts
-pub mod Taken
 pub mod Written
 pub mod Rows
 pub mod Lines

@@ -7,7 +7,7 @@ use Rattle.view_ends.specs.Ends.{Rose, RoseBy, AllStay, OthersStay}
 use Rattle.view_meaning.specs.Layout.{IsLaid}
 use Rattle.view_commands.specs.Texts.{IsRead, OnlyTook, NoSurvey}
 use Rattle.view_commands.specs.Serve.{IsNothing, NotOpened, RunsSession, IsCalm, Goes, ServesOne}
-use Rattle.view_commands.specs.Steps.{OnlyInput, OpensEnds}
+use Rattle.view_commands.specs.Steps.{OnlyInput, OpensOutputs}
 use Rattle.view_commands.specs.declared.status.Status as status
 use Rattle.view_commands.specs.declared.status.Status.TheVariants.{Done, Words, Limit, OpenFault, ReadFault, TooLong, Survey, WriteFault, SessionLimit, Memory, NotYet}
 use Rattle.view_commands.specs.declared.told.Ended as told
@@ -69,34 +69,24 @@ serves-unopened tells old mid new survey journal input output b status_is ended 
       settled = read-settles tells old new survey b (IsCalm old new journal input output) ended.status laid reads (not_opened-calm tells old new journal input output ended.status came);
     }
 
--- a survey was read, and then there was no memory for what comes before the openings
-pub serves-unmade : (tells : Bool) (old new : Said) (survey journal input output b : List ℕ) (ended : told.Ended) → survey ≢ input → ended.status ≡ Memory → IsNothing ended.told
-    → IsLaid b → IsRead tells old new survey b → OnlyTook old new survey → ServesOne tells old new survey journal input output ended
-serves-unmade tells old new survey journal input output b ended apart is nothing laid read took =
-    serves-unopened tells old new new survey journal input output b Memory ended apart is nothing laid read took (inl (λ name. refl), same_said new) record {
-      unopened = λ name apart. refl;
-      reads = λ name apart. refl;
-      taken = λ name apart. refl;
-    } (at_most _ _ refl)
-
 -- a survey was read, then all was opened, and then the session ran
 pub serves-session : (tells : Bool) (old mid last new : Said) (survey journal input output b : List ℕ) (left : Option (List ℕ)) (ended : told.Ended) (end : SessionEnd) → survey ≢ input → ended.told.sessions.items ≡ end ∷ []
-    → IsLaid b → IsRead tells old mid survey b → OnlyTook old mid survey → OpensEnds tells mid last journal input output left → RunsSession tells last new journal input output b left ended end → OnlyInput last new input
+    → IsLaid b → IsRead tells old mid survey b → OnlyTook old mid survey → left ≡ mid.file input → OpensOutputs mid last journal output → RunsSession tells last new journal input output b left ended end → OnlyInput last new input
     → ServesOne tells old new survey journal input output ended
-serves-session tells old mid last new survey journal input output b left ended end apart one laid read took opens runs only =
-    let same_input : left ≡ old.file input = opens.bytes ∙ took.rest.files input in
+serves-session tells old mid last new survey journal input output b left ended end apart one laid read took left_is opens runs only =
+    let same_input : left ≡ old.file input = left_is ∙ took.rest.files input in
     let reads = read-before tells old mid new survey input b apart read record {
-      unopened = λ other apart. only.unopened other apart ∙ opens.outputs.rest.unopened other;
-      reads = λ other apart. only.reads other apart ∙ opens.outputs.rest.reads other;
-      taken = λ other apart. only.taken other apart ∙ opens.outputs.rest.taken other;
+      unopened = λ other apart. only.unopened other apart ∙ opens.rest.unopened other;
+      reads = λ other apart. only.reads other apart ∙ opens.rest.reads other;
+      taken = λ other apart. only.taken other apart ∙ opens.rest.taken other;
     } in
     let earlier = runs-earlier tells old last new journal input output b left ended end
-    (λ other. opens.outputs.rest.unopened other ∙ took.rest.unopened other)
-    (λ other. opens.outputs.rest.reads other ∙ took.rest.reads other)
-    (λ other. opens.outputs.rest.writes other ∙ took.rest.writes other)
-    (λ other. opens.outputs.rest.unkept other ∙ took.rest.unkept other)
-    (opens.outputs.rest.taken input ∙ took.others input (λ same. apart (sym same)))
-    (λ other apart too. opens.outputs.files other apart too ∙ took.rest.files other) runs in
+    (λ other. opens.rest.unopened other ∙ took.rest.unopened other)
+    (λ other. opens.rest.reads other ∙ took.rest.reads other)
+    (λ other. opens.rest.writes other ∙ took.rest.writes other)
+    (λ other. opens.rest.unkept other ∙ took.rest.unkept other)
+    (opens.rest.taken input ∙ took.others input (λ same. apart (sym same)))
+    (λ other apart too. opens.files other apart too ∙ took.rest.files other) runs in
     let session : RunsSession tells old new journal input output b (old.file input) ended end =
     subst (λ (o : Option (List ℕ)). RunsSession tells old new journal input output b o ended end) same_input earlier in
     record {

@@ -6,7 +6,8 @@ use Rattle.std.specs.Prelude.{◌⊎◌, ◌↔◌, min, IfSome, Result}
 use Rattle.sessions.specs.Listening.{Read, Wrote, reason_of}
 use Rattle.view_ends.specs.declared.fault.EndFault.{EndFault}
 use Rattle.view_ends.specs.declared.fault.EndFault.TheVariants as fault
-use Rattle.view_ends.specs.Desk.{Said, Shuts, Keeps}
+use Rattle.view_ends.specs.Calls.{Shuts, Keeps}
+use Rattle.view_ends.specs.Desk.{Said}
 use Rattle.view_ends.specs.Ends.{Rose, RoseBy, AllStay}
 use Rattle.sessions.specs.declared.end.SessionEnd.{SessionEnd}
 use Rattle.sessions.specs.declared.end.Reason as reason
@@ -171,12 +172,30 @@ limit-told tells old new journal output bytes got why kept written taken status 
   λ came. status_is ∙ ap (λ (r : reason.Reason). status_of r kept written) (limit.1 came),
 )
 
--- a session that finished took its whole input
-pub finished-whole : (format : ℕ) (input : List ℕ) (taken : ℕ) (items : List Item) → Processed format input taken Finished items → taken ≡ length input
-finished-whole format input taken items processed =
+finished : (reason kept written : reason.Reason) → status_of reason kept written ≡ state.Done → reason ≡ Finished
+finished Finished kept written is = refl
+finished ReadFault kept written is = absurd (cc is)
+finished SessionLimit kept written is = absurd (cc is)
+finished WriteFault kept written is = absurd (cc is)
+finished Memory kept written is = absurd (cc is)
+
+finished-whole : (format : ℕ) (input : List ℕ) (taken : ℕ) (reason : reason.Reason) (items : List Item) → reason ≡ Finished → Processed format input taken reason items → taken ≡ length input
+finished-whole format input taken Finished items is processed =
     let all : take (min taken LIMIT) input ≡ input = processed.items_are.0 in
     let size : min (min taken LIMIT) (length input) ≡ length input = sym (length-take (min taken LIMIT) input) ∙ ap (λ (l : List ℕ). length l) all in
     whole taken (length input) processed.came size
   where
     whole : (a b : ℕ) → a ≤ b → min (min a LIMIT) b ≡ b → a ≡ b
     whole a b le size = grind (arith, nat_tests)
+finished-whole format input taken ReadFault items is processed = absurd (cc is)
+finished-whole format input taken SessionLimit items is processed = absurd (cc is)
+finished-whole format input taken WriteFault items is processed = absurd (cc is)
+finished-whole format input taken Memory items is processed = absurd (cc is)
+
+-- where all was done, the session finished and took its whole input
+pub done-whole : (tells : Bool) (old new : Said) (journal input output b i : List ℕ) (ended : told.Ended) (end : SessionEnd) → RunsSession tells old new journal input output b (old.file input) ended end → ended.status ≡ state.Done
+    → old.file input ≡ Some i → (end.reason ≡ Finished) × (end.taken ≡ length i)
+done-whole tells old new journal input output b i ended end runs done is =
+    let reason_is : end.reason ≡ Finished = finished end.reason runs.kept ended.told.journal (sym runs.status ∙ done) in
+    let same : i ≡ runs.served.input = input_is (old.file input) runs.served.input i is runs.served.input_is in
+    (reason_is, finished-whole _ runs.served.input end.taken end.reason runs.served.items reason_is runs.served.processed ∙ sym (ap (λ (l : List ℕ). length l) same))

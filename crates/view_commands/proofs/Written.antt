@@ -1,6 +1,5 @@
 -- Commands that read a survey and write a text, put together of their steps.
 use Rattle.std.proofs.Common.{◌≡◌, ◌≢◌, ℕ, ◌<◌, ◌≤◌, List, [], Option, Some, None, length, take, refl, sym, ◌∙◌, ap, subst, arith, inl, inr}
-use Rattle.std.proofs.Math.Seq.{take-nil}
 use Rattle.std.specs.Prelude.{Bool, IsTrue, IfSome, ◌⊎◌}
 use Rattle.las_survey.specs.Fault.{fault_of}
 use Rattle.las_survey.specs.declared.fault.SurveyFault.{SurveyFault}
@@ -16,7 +15,6 @@ use Rattle.view_commands.specs.Steps.{OnlyWrote}
 use Rattle.view_commands.specs.Texts.{IsRead, OnlyTook, NoSurvey, HoldsPart, KeepsText, Writes, Settles, SettlesFile, MakesText, drawn}
 use Rattle.view_commands.specs.declared.status.Status as status
 use Rattle.view_commands.specs.declared.status.Status.TheVariants.{Done, Words, Limit, OpenFault, ReadFault, TooLong, Survey, WriteFault, SessionLimit, Memory, NotYet}
-use Rattle.view_commands.proofs.Counts.{same_said}
 
 -- a file that is laid out has no fault
 fault-laid : (b : List ℕ) (fault : layout.Fault) → IsLaid b → layout.fault b ≡ Some fault → ⊥
@@ -122,20 +120,6 @@ keeps-earlier tells old mid new name bytes why.Memory writes unkept so = (part_e
 keeps-earlier tells old mid new name bytes why.ReadFault writes unkept so = absurd so
 keeps-earlier tells old mid new name bytes why.SessionLimit writes unkept so = absurd so
 
--- an empty text in the place of one that was not made: what was all is a part
-pub keeps-unmade : (tells : Bool) (old new : Said) (name bytes : List ℕ) → KeepsText tells old new name [] why.Finished → KeepsText tells old new name bytes why.Memory
-keeps-unmade tells old new name bytes so = (λ tell calm. (0, omega arith, so.0 tell), so.1)
-
-part-none : (tells : Bool) (old new : Said) (name bytes : List ℕ) → HoldsPart tells old new name [] → HoldsPart tells old new name bytes
-part-none tells old new name bytes part = λ tell calm. let front = part tell calm in (0, omega arith, front.2 ∙ ap (λ (l : List ℕ). Some l) (take-nil front.0))
-
-pub keeps-part : (tells : Bool) (old new : Said) (name bytes : List ℕ) (reason : reason.Reason) → (reason ≡ why.Finished → ⊥) → KeepsText tells old new name [] reason → KeepsText tells old new name bytes reason
-keeps-part tells old new name bytes why.Finished none so = absurd (none refl)
-keeps-part tells old new name bytes why.WriteFault none so = (part-none tells old new name bytes so.0, so.1)
-keeps-part tells old new name bytes why.Memory none so = (part-none tells old new name bytes so.0, so.1)
-keeps-part tells old new name bytes why.ReadFault none so = so
-keeps-part tells old new name bytes why.SessionLimit none so = so
-
 -- a text that was written after a survey was read, seen from before that
 writes-earlier : (tells : Bool) (old mid new : Said) (out bytes : List ℕ) (status : status.Status) → AllStay old.file mid.file → mid.writes out ≡ old.writes out → mid.unkept out ≡ old.unkept out
     → Writes tells mid new out bytes status → Writes tells old new out bytes status
@@ -196,16 +180,6 @@ text-written tells old mid new survey out text b bytes status is laid read took 
       outcome = inr (b, laid, reads, writes);
       others = λ other apart. only.files other apart ∙ took.rest.files other;
       settled = read-settles tells old new survey b (Rose (old.writes out) (new.writes out) → ⊥) status laid reads (writes-calm tells old new out (text b) status writes);
-    }
-
--- a survey was read, and there was no memory for its text
-pub text-unmade : (tells : Bool) (old new : Said) (survey out : List ℕ) (text : List ℕ → List ℕ) (b : List ℕ) → IsLaid b → IsRead tells old new survey b → OnlyTook old new survey → MakesText tells old new survey out text Memory
-text-unmade tells old new survey out text b laid read took =
-    text-written tells old new new survey out text b (text b) Memory refl laid read took (inl (λ name. refl), refl) record {
-      files = λ name apart. refl;
-      writes = λ name apart. refl;
-      unkept = λ name apart. refl;
-      rest = same_said new;
     }
 
 -- a picture that was drawn under these names and through this camera, where they are others by an equation

@@ -89,7 +89,7 @@ pub record RunsSession (tells : Bool) (old new : Said) (journal_name input outpu
   pub legal : IsLegal ended.told.history.items
   pub mine : All (λ (entry : Entry). entry.who ≡ 1) ended.told.history.items
   pub given_back : IsGivenBack ended.told.history.items
-  pub newest_held : (callers : ℕ) → held callers ended.told.history.items ≡ (length (journal ended.told.history.items), 0) ∷ []
+  pub newest_held : held ended.told.history.items ≡ (length (journal ended.told.history.items), 0) ∷ []
   pub taken : RoseBy end.taken (old.taken input) (new.taken input)
   pub opened : new.unopened input ≡ old.unopened input
   pub read : RoseWhere (end.reason ≡ why.ReadFault) (old.reads input) (new.reads input)

@@ -1,8 +1,10 @@
 -- What the steps of the commands hand to one another.
-use Rattle.std.specs.Prelude.{◌≡◌, ◌≤◌, ℕ, Bool, IsTrue, List, [], Option, Some, IsSome}
+use Rattle.std.specs.Prelude.{◌≡◌, ◌≤◌, ℕ, Bool, IsTrue, List, [], ◌∷◌, Option, Some}
+use Rattle.sessions.specs.declared.end.SessionEnd.{SessionEnd}
 use Rattle.view_ends.specs.Desk.{Said, Untouched}
 use Rattle.view_ends.specs.Ends.{OthersStay}
-use Rattle.view_commands.specs.Serve.{OtherFilesStay}
+use Rattle.view_commands.specs.declared.told.Ended.{Ended}
+use Rattle.view_commands.specs.Serve.{OtherFilesStay, RunsSession}
 
 -- nothing changed but a file, and what its writing and its keeping count
 pub record OnlyWrote (old new : Said) (name : List ℕ) : Type 0 where
@@ -17,22 +19,22 @@ pub record OnlyInput (old new : Said) (input : List ℕ) : Type 0 where
   pub reads : OthersStay old.reads new.reads input
   pub taken : OthersStay old.taken new.taken input
 
--- an input of which nothing was taken, and two outputs that got nothing
-pub record AreFresh (tells : Bool) (taken faults : ℕ) (output journal : Option (List ℕ)) (output_faults journal_faults : ℕ) : Type 0 where
+-- an input of which nothing was taken
+pub record IsUnread (taken faults : ℕ) : Type 0 where
   pub untaken : taken ≡ 0
   pub faultless : faults ≡ 0
-  pub output_empty : IsTrue tells → output ≡ Some []
-  pub output_faultless : output_faults ≡ 0
-  pub journal_empty : IsTrue tells → journal ≡ Some []
-  pub journal_faultless : journal_faults ≡ 0
+
+-- an output that got nothing
+pub record IsUnwritten (tells : Bool) (got : Option (List ℕ)) (faults : ℕ) : Type 0 where
+  pub empty : IsTrue tells → got ≡ Some []
+  pub faultless : faults ≡ 0
 
 -- two names were opened to write, and nothing changed but their files
 pub record OpensOutputs (old new : Said) (journal output : List ℕ) : Type 0 where
   pub files : OtherFilesStay old new output journal
   pub rest : Untouched (record old { file = new.file }) new
 
--- an input was opened whose bytes are these, and both outputs were
-pub record OpensEnds (tells : Bool) (old new : Said) (journal input output : List ℕ) (left : Option (List ℕ)) : Type 0 where
-  pub bytes : left ≡ old.file input
-  pub there : IsTrue tells → IsSome (old.file input)
-  pub outputs : OpensOutputs old new journal output
+-- one session ran, and its end is told
+abbrev pub RunsOne : Bool → Said → Said → List ℕ → List ℕ → List ℕ → List ℕ → Option (List ℕ) → Ended → Type 0
+RunsOne tells old new journal input output b left ended =
+    (end : SessionEnd) × (ended.told.sessions.items ≡ end ∷ []) × RunsSession tells old new journal input output b left ended end

@@ -1,8 +1,8 @@
-ghost use Rattle.std.specs.Prelude.{◌≡◌, ◌++◌, [], ◌∷◌, Some, IsTrue, IfOk, OnOk};
+ghost use Rattle.std.specs.Prelude.{◌≡◌, ◌++◌, [], ◌∷◌, IfOk, OnOk};
 ghost use Rattle.version_store.specs.Histories.{journal, edit_in};
 ghost use Rattle.view_ends.specs.Desk.{IsKnown};
 ghost use Rattle.view_commands.specs.Serve.{journal_text};
-ghost use Rattle.view_commands.specs.Steps.{OnlyWrote};
+ghost use Rattle.view_commands.specs.Steps.{IsUnwritten, OnlyWrote};
 ghost use Rattle.view_commands.specs.Texts.{KeepsText};
 
 use crate::texts::keep_text;
@@ -22,8 +22,7 @@ pub(crate) fn write_journal<D: Desk>(
     history: &[Entry],
 ) -> Reason
     requires known { IsKnown (D.says desk.old) name.now }
-    requires empty { IsTrue D.tells → D.Out.got out ≡ Some [] }
-    requires faultless { D.Out.faults out ≡ 0 }
+    requires fresh { IsUnwritten D.tells (D.Out.got out) (D.Out.faults out) }
     ensures kept { KeepsText D.tells (D.says desk.old) (D.says desk.new) name.now (journal_text (journal history.now)) result }
     ensures only { OnlyWrote (D.says desk.old) (D.says desk.new) name.now }
 {

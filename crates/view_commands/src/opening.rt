@@ -1,8 +1,8 @@
-ghost use Rattle.std.specs.Prelude.{◌≢◌, ◌≤◌, IfOk, IfErr, OnOk, OnErr};
+ghost use Rattle.std.specs.Prelude.{◌≡◌, ◌≢◌, ◌≤◌, IsTrue, IsSome, IfOk, IfErr, OnOk, OnErr};
 ghost use Rattle.view_ends.specs.Desk.{IsKnown};
 ghost use Rattle.view_ends.specs.Ends.{AllStay, NoneForgotten};
 ghost use Rattle.view_commands.specs.Serve.{NotOpened};
-ghost use Rattle.view_commands.specs.Steps.{AreFresh, OnlyInput, OpensEnds, OpensOutputs};
+ghost use Rattle.view_commands.specs.Steps.{IsUnread, IsUnwritten, OnlyInput, OpensOutputs};
 
 use crate::places::{INPUT, JOURNAL, OUTPUT};
 use crate::status::Status;
@@ -38,8 +38,12 @@ pub(crate) fn open_ends<D: Desk>(
     names: Names,
 ) -> Result<Opened<D::In, D::Out>, Status>
     requires apart { names.journal.now ≢ names.output.now }
-    ensures opened { IfOk result (λ ends. OpensEnds D.tells (D.says desk.old) (D.says desk.new) names.entry.journal.now names.entry.input.now names.entry.output.now (D.In.left ends.input)) }
-    ensures fresh { IfOk result (λ ends. AreFresh D.tells (D.In.taken ends.input) (D.In.faults ends.input) (D.Out.got ends.output) (D.Out.got ends.journal) (D.Out.faults ends.output) (D.Out.faults ends.journal)) }
+    ensures left { IfOk result (λ ends. D.In.left ends.input ≡ (D.says desk.old).file names.entry.input.now) }
+    ensures there { IsTrue D.tells → OnOk result (IsSome ((D.says desk.old).file names.entry.input.now)) }
+    ensures opened { OnOk result (OpensOutputs (D.says desk.old) (D.says desk.new) names.entry.journal.now names.entry.output.now) }
+    ensures input { IfOk result (λ ends. IsUnread (D.In.taken ends.input) (D.In.faults ends.input)) }
+    ensures output { IfOk result (λ ends. IsUnwritten D.tells (D.Out.got ends.output) (D.Out.faults ends.output)) }
+    ensures journal { IfOk result (λ ends. IsUnwritten D.tells (D.Out.got ends.journal) (D.Out.faults ends.journal)) }
     ensures input_known { OnOk result (IsKnown (D.says desk.new) names.entry.input.now) }
     ensures output_known { OnOk result (IsKnown (D.says desk.new) names.entry.output.now) }
     ensures journal_known { OnOk result (IsKnown (D.says desk.new) names.entry.journal.now) }
@@ -69,7 +73,8 @@ pub(crate) fn open_ends<D: Desk>(
 fn open_outputs<D: Desk>(desk: &mut D, names: Names) -> Result<Outputs<D::Out>, Status>
     requires apart { names.journal.now ≢ names.output.now }
     ensures opened { OnOk result (OpensOutputs (D.says desk.old) (D.says desk.new) names.entry.journal.now names.entry.output.now) }
-    ensures fresh { IfOk result (λ outs. AreFresh D.tells 0 0 (D.Out.got outs.output) (D.Out.got outs.journal) (D.Out.faults outs.output) (D.Out.faults outs.journal)) }
+    ensures output { IfOk result (λ outs. IsUnwritten D.tells (D.Out.got outs.output) (D.Out.faults outs.output)) }
+    ensures journal { IfOk result (λ outs. IsUnwritten D.tells (D.Out.got outs.journal) (D.Out.faults outs.journal)) }
     ensures output_known { OnOk result (IsKnown (D.says desk.new) names.entry.output.now) }
     ensures journal_known { OnOk result (IsKnown (D.says desk.new) names.entry.journal.now) }
     ensures refused { IfErr result (λ status. NotOpened D.tells (D.says desk.old) (D.says desk.new) names.entry.journal.now names.entry.input.now names.entry.output.now status) }

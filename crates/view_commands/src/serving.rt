@@ -1,9 +1,8 @@
 ghost use Rattle.std.specs.Arc.{arc_value};
-ghost use Rattle.std.specs.Prelude.{◌≡◌, ◌≢◌, ◌≤◌, ◌∷◌, [], IsSome, IsTrue};
-ghost use Rattle.sessions.specs.declared.end.SessionEnd.{SessionEnd};
+ghost use Rattle.std.specs.Prelude.{◌≡◌, ◌≢◌, ◌≤◌, [], IsSome, IsTrue};
 ghost use Rattle.view_ends.specs.Desk.{IsKnown};
-ghost use Rattle.view_commands.specs.Serve.{RunsSession, ServesOne};
-ghost use Rattle.view_commands.specs.Steps.{AreFresh, OnlyInput};
+ghost use Rattle.view_commands.specs.Serve.{ServesOne};
+ghost use Rattle.view_commands.specs.Steps.{IsUnread, IsUnwritten, OnlyInput, RunsOne};
 
 use crate::journal::write_journal;
 use crate::opening::{Names, Opened, open_ends};
@@ -67,8 +66,10 @@ fn serve_opened<D: Desk, B: Beside>(
     requires output_known { IsKnown (D.says desk.old) names.output.now }
     requires journal_known { IsKnown (D.says desk.old) names.journal.now }
     requires there { IsTrue D.tells → IsSome (D.In.left ends.input) }
-    requires fresh { AreFresh D.tells (D.In.taken ends.input) (D.In.faults ends.input) (D.Out.got ends.output) (D.Out.got ends.journal) (D.Out.faults ends.output) (D.Out.faults ends.journal) }
-    ensures one { (end : SessionEnd) × (result.told.sessions.items ≡ end ∷ []) × RunsSession D.tells (D.says desk.old) (D.says desk.new) names.entry.journal.now names.entry.input.now names.entry.output.now (arc_value scene.now.survey) (D.In.left ends.input) result end }
+    requires input { IsUnread (D.In.taken ends.input) (D.In.faults ends.input) }
+    requires output { IsUnwritten D.tells (D.Out.got ends.output) (D.Out.faults ends.output) }
+    requires journal { IsUnwritten D.tells (D.Out.got ends.journal) (D.Out.faults ends.journal) }
+    ensures one { RunsOne D.tells (D.says desk.old) (D.says desk.new) names.entry.journal.now names.entry.input.now names.entry.output.now (arc_value scene.now.survey) (D.In.left ends.input) result }
     ensures only { OnlyInput (D.says desk.old) (D.says desk.new) names.entry.input.now }
 {
     let Opened {

@@ -1,9 +1,9 @@
-ghost use Rattle.std.specs.Prelude.{◌≡◌, [], IsTrue, IfErr, IfOk, Some};
+ghost use Rattle.std.specs.Prelude.{◌≡◌, IfErr, IfOk};
 ghost use Rattle.sessions.specs.Listening as listening;
 ghost use Rattle.view_ends.specs.Desk.{IsKnown};
 ghost use Rattle.view_ends.specs.Ends.{OthersStay};
 ghost use Rattle.view_meaning.specs.Layout.{IsLaid};
-ghost use Rattle.view_commands.specs.Steps.{OnlyWrote};
+ghost use Rattle.view_commands.specs.Steps.{IsUnwritten, OnlyWrote};
 ghost use Rattle.view_commands.specs.Texts.{IsRead, KeepsText, NoSurvey, OnlyTook, Writes};
 
 use crate::places::{OUT, SURVEY};
@@ -59,8 +59,7 @@ pub(crate) fn write_text<D: Desk>(desk: &mut D, out: &str, text: &[u8]) -> Statu
 /// memory.
 pub(crate) fn keep_text<D: Desk>(desk: &mut D, name: &str, mut out: D::Out, text: &[u8]) -> Reason
     requires known { IsKnown (D.says desk.old) name.now }
-    requires empty { IsTrue D.tells → D.Out.got out ≡ Some [] }
-    requires faultless { D.Out.faults out ≡ 0 }
+    requires fresh { IsUnwritten D.tells (D.Out.got out) (D.Out.faults out) }
     ensures kept { KeepsText D.tells (D.says desk.old) (D.says desk.new) name.now text.now result }
     ensures only { OnlyWrote (D.says desk.old) (D.says desk.new) name.now }
 {

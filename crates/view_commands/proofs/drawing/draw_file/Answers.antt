@@ -1,6 +1,6 @@
 use Rattle.std.proofs.Common.{rules, List, ℕ}
 use Rattle.view_commands.specs.Texts.{drawn}
-use Rattle.view_commands.proofs.Written.{text-none, text-written, text-unmade}
+use Rattle.view_commands.proofs.Written.{text-none, text-written}
 use Rattle.view_commands.proofs.drawing.draw_file.Goals as goal
 
 pub returns-in-Err : goal.returns-in-Err

@@ -1,6 +1,6 @@
 use Rattle.std.proofs.Common.{rules}
 use Rattle.survey_info.specs.Text.{info_text}
-use Rattle.view_commands.proofs.Written.{text-none, text-written, text-unmade}
+use Rattle.view_commands.proofs.Written.{text-none, text-written}
 use Rattle.view_commands.proofs.informing.info_file.Goals as goal
 
 pub returns-in-Err : goal.returns-in-Err

@@ -33,10 +33,10 @@ returns-clause-one g c =
     subst (λ (r : reason.Reason). KeptSo old new output got r) (sym c.reason_of-kept.ensures)
     (kept-so old shut last new output got _ c.keep.result (c.shut.ensures.desk.rest.unkept output) c.keep.ensures.desk (journal.unkept output apart) (journal.files output apart)) in
     let read : RoseWhere (end.reason ≡ ReadFault) (old.reads input) (new.reads input) =
-    read-so old shut new input _ _ _ end.reason c.requires.fresh.faultless session.reads c.shut.ensures.desk (search rules) in
+    read-so old shut new input _ _ _ end.reason c.requires.input.faultless session.reads c.shut.ensures.desk (search rules) in
     let wrote : RoseWhere ((end.reason ≡ WriteFault) ⊎ (kept ≡ WriteFault)) (old.writes output) (new.writes output) =
     subst (λ (r : reason.Reason). RoseWhere ((end.reason ≡ WriteFault) ⊎ (r ≡ WriteFault)) (old.writes output) (new.writes output)) (sym c.reason_of-kept.ensures)
-    (wrote-so old shut last new output got _ _ end.reason c.keep.result c.requires.fresh.output_faultless session.writes c.keep.ensures.desk (c.shut.ensures.desk.rest.writes output) (journal.writes output apart)) in
+    (wrote-so old shut last new output got _ _ end.reason c.keep.result c.requires.output.faultless session.writes c.keep.ensures.desk (c.shut.ensures.desk.rest.writes output) (journal.writes output apart)) in
     let journal_file : KeepsText g.D.Desk.tells old new c.args.names.journal.now (journal_text (history.journal c.serve_alone-end.new.history.items)) written =
     keeps-earlier g.D.Desk.tells old last new c.args.names.journal.now _ written (search rules) (search rules)
     (subst (λ (h : List Entry). KeepsText g.D.Desk.tells last new c.args.names.journal.now (journal_text (history.journal h)) written) c.as_slice.ensures c.write_journal-journal.ensures.kept) in
@@ -45,14 +45,14 @@ returns-clause-one g c =
       one,
       record {
         start = g.D.Out.Sink.got c.args.ends.output;
-        empty = c.requires.fresh.output_empty;
+        empty = c.requires.output.empty;
         got = got;
         there = c.requires.there;
         served = session.served;
         legal = session.legal;
         mine = session.mine;
         given_back = session.given_back;
-        newest_held = λ callers. held_current callers c.serve_alone-end.new.history.items session.given_back;
+        newest_held = held_current c.serve_alone-end.new.history.items session.given_back;
         taken = search rules;
         opened = search rules;
         read = read;
