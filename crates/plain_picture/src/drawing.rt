@@ -39,7 +39,9 @@ pub fn picture<B: Beside>(
     requires records { length classes.now ≡ record_count (arc_value scene.now.survey) }
     requires by_class { view.now ≡ by_class view.now.camera }
     ensures drawn { OnOk result (out.new.items ≡ out.old.items ++ picture (arc_value scene.now.survey) classes.now view.now) }
-    ensures size { OnOk result (length (picture (arc_value scene.now.survey) classes.now view.now) ≡ length (ppm_header view.now.camera.width view.now.camera.height) + 3 * (view.now.camera.width * view.now.camera.height)) }
+    ensures size { OnOk result (length (picture (arc_value scene.now.survey) classes.now view.now)
+        ≡ length (ppm_header view.now.camera.width view.now.camera.height)
+        + 3 * (view.now.camera.width * view.now.camera.height)) }
     ensures nearest { OnOk result (ShowsNearest (arc_value scene.now.survey) classes.now view.now (drop (length out.old.items) out.new.items)) }
     ensures refused { OnErr result (out.new.items ≡ out.old.items) }
 {
