@@ -92,7 +92,10 @@ pub fn load<S: Source>(alloc: Global, source: &mut S) -> Result<Survey, LoadFaul
     ensures read_fault { IsErrOf result LoadFault.ReadFault → Rose (S.faults source.old) (S.faults source.new) }
     ensures too_long { IsErrOf result LoadFault.TooLong → S.taken source.new ≡ S.taken source.old + (LIMIT + 1) }
     ensures too_many { IsErrOf result LoadFault.TooLong → IfSome (S.left source.old) (λ all. LIMIT < length all) }
-    ensures survey { (fault : SurveyFault) → IsErrOf result (LoadFault.Survey fault) → (bytes : List ℕ) × (length bytes ≤ LIMIT) × TookAll (S.left source.old) (S.taken source.old) bytes (S.left source.new) (S.taken source.new) × (layout.fault bytes ≡ Some (fault_of fault)) }
+    ensures survey { (fault : SurveyFault) → IsErrOf result (LoadFault.Survey fault)
+        → (bytes : List ℕ) × (length bytes ≤ LIMIT)
+        × TookAll (S.left source.old) (S.taken source.old) bytes (S.left source.new) (S.taken source.new)
+        × (layout.fault bytes ≡ Some (fault_of fault)) }
     ensures calm { (IsErrOf result LoadFault.ReadFault → ⊥) → S.faults source.new ≡ S.faults source.old }
     ensures later { S.faults source.old ≤ S.faults source.new }
     ensures few { S.taken source.new ≤ S.taken source.old + (LIMIT + 1) }
