@@ -78,130 +78,69 @@ pub fn found_in_header(fault: HeaderFault) -> Option<LoadFault> {
     found(SurveyFault::Header(fault))
 }
 
-/// Headers of LAS 1.4, and the condition that each does not meet.
-const CONDITIONS: [(Fields, HeaderFault); 8] = [
-    (
-        Fields {
-            signature: *b"LASf",
-            ..EMPTY
-        },
-        HeaderFault::Signature,
-    ),
-    (
-        Fields { size: 374, ..EMPTY },
-        HeaderFault::HeaderSize { size: 374 },
-    ),
-    (
-        Fields {
-            format: 128,
-            ..EMPTY
-        },
-        HeaderFault::Compressed { byte: 128 },
-    ),
-    (
-        Fields {
-            format: 134,
-            ..EMPTY
-        },
-        HeaderFault::Compressed { byte: 134 },
-    ),
-    (
-        Fields {
-            format: 127,
-            ..EMPTY
-        },
-        HeaderFault::Format { byte: 127 },
-    ),
-    (
-        Fields {
-            format: 11,
-            ..EMPTY
-        },
-        HeaderFault::Format { byte: 11 },
-    ),
-    (
-        Fields {
-            format: 3,
-            length: 33,
-            ..EMPTY
-        },
-        HeaderFault::RecordLength {
-            have: 33,
-            least: 34,
-        },
-    ),
-    (
-        Fields {
-            points_at: 374,
-            ..EMPTY
-        },
-        HeaderFault::Offset { offset: 374 },
-    ),
-];
+/// A file of a header alone, of which one byte is changed, is refused so.
+fn is_refused_with_byte(
+    rt: &impl Abort,
+    alloc: Global,
+    fields: &Fields,
+    change: (usize, u8),
+    fault: HeaderFault,
+) {
+    assert_eq!(rt;
+        changed_refusal(alloc, fields, change),
+        found_in_header(fault)
+    );
+}
 
-#[test]
-fn each_condition_on_the_header_has_its_fault(rt: HostRuntime) {
-    for (fields, fault) in CONDITIONS {
-        let want = found_in_header(fault);
-        assert_eq!(rt; refusal(rt.alloc(), &fields, &[]), want);
+/// Why a file of a header alone is refused, of which one byte is changed.
+fn changed_refusal(alloc: Global, fields: &Fields, change: (usize, u8)) -> Option<LoadFault> {
+    match file(alloc, fields, &[]) {
+        Ok(bytes) => loaded(alloc, changed(bytes, change).as_slice()).err(),
+        Err(OutOfMemory) => Some(LoadFault::Memory),
     }
 }
 
-/// Headers of several versions, and the condition that each does not meet: a wrong signature is told
-/// before the version, and the version before the header's bytes.
-const VERSIONS: [(Fields, HeaderFault); 6] = [
-    (
-        Fields {
-            signature: *b"LASf",
-            minor: 1,
-            ..EMPTY
-        },
-        HeaderFault::Signature,
-    ),
-    (
-        Fields {
-            major: 2,
-            ..EMPTY_1_2
-        },
-        HeaderFault::Version { major: 2, minor: 2 },
-    ),
-    (
-        Fields {
-            minor: 1,
-            ..EMPTY_1_2
-        },
-        HeaderFault::Version { major: 1, minor: 1 },
-    ),
-    (
-        Fields {
-            minor: 5,
-            size: 226,
-            ..EMPTY_1_2
-        },
-        HeaderFault::Version { major: 1, minor: 5 },
-    ),
-    (
-        Fields {
-            size: 226,
-            ..EMPTY_1_2
-        },
-        HeaderFault::HeaderSize { size: 226 },
-    ),
-    (
-        Fields {
-            size: 234,
-            ..EMPTY_1_3
-        },
-        HeaderFault::HeaderSize { size: 234 },
-    ),
-];
+/// A file with the byte at a place changed.
+fn changed(bytes: Bytes, (at, byte): (usize, u8)) -> Bytes {
+    let mut all = bytes.into_vec();
+    if at < all.len() {
+        all[at] = byte;
+    }
+    Bytes::from_vec(all)
+}
 
 #[test]
-fn each_version_has_its_least_header(rt: HostRuntime) {
-    for (fields, fault) in VERSIONS {
-        let want = found_in_header(fault);
-        assert_eq!(rt; refusal(rt.alloc(), &fields, &[]), want);
+fn each_condition_on_the_header_has_its_fault(rt: HostRuntime) {
+    let (have, least) = (20, 34);
+    for (change, fault) in [
+        ((3, b'f'), HeaderFault::Signature),
+        ((94, 0x76), HeaderFault::HeaderSize { size: 374 }),
+        ((104, 128), HeaderFault::Compressed { byte: 128 }),
+        ((104, 134), HeaderFault::Compressed { byte: 134 }),
+        ((104, 127), HeaderFault::Format { byte: 127 }),
+        ((104, 11), HeaderFault::Format { byte: 11 }),
+        ((104, 3), HeaderFault::RecordLength { have, least }),
+        ((96, 0x76), HeaderFault::Offset { offset: 374 }),
+    ] {
+        is_refused_with_byte(&rt, rt.alloc(), &EMPTY, change, fault);
     }
+}
+
+#[test]
+fn a_version_is_told_after_the_signature_and_before_the_bytes_of_its_block(rt: HostRuntime) {
+    for (change, fault) in [
+        ((3, b'f'), HeaderFault::Signature),
+        ((24, 2), HeaderFault::Version { major: 2, minor: 2 }),
+        ((25, 1), HeaderFault::Version { major: 1, minor: 1 }),
+        ((25, 5), HeaderFault::Version { major: 1, minor: 5 }),
+        ((25, 3), HeaderFault::TooShort { have: 227 }),
+        ((25, 4), HeaderFault::TooShort { have: 227 }),
+        ((94, 226), HeaderFault::HeaderSize { size: 226 }),
+    ] {
+        is_refused_with_byte(&rt, rt.alloc(), &EMPTY_1_2, change, fault);
+    }
+    let small = HeaderFault::HeaderSize { size: 234 };
+    is_refused_with_byte(&rt, rt.alloc(), &EMPTY_1_3, (94, 234), small);
 }
 
 #[test]
