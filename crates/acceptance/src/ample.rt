@@ -14,7 +14,7 @@ const VIEW: &[u8] = b"view ortho 1 1 0 0 0 1 0 0 0 1 0 0 0 1 1 1 0 10 class all 
 const REPLY: &[u8] = b"PICTURE 0 14\nP6\n1 1\n255\n\xC6\x86\xFA";
 
 /// What `info` tells of the survey of one point.
-const TEXT: &[u8] =
+pub(crate) const TEXT: &[u8] =
     b"LAS 1.4\nheader 375\nformat 0\nlength 20\nrecords 1\nvlrs 0\nevlrs 0\nbytes 395\nbox 0 0 5 0 0 5\nclass 2 1\n";
 
 /// Draws with so many workers as the line says, which has to give the picture of the one point.

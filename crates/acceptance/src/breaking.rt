@@ -1,16 +1,14 @@
 use crate::desks::{File, Shelf, command, fill, holds};
 use crate::drawing::CLASS_6;
 use crate::plain::{ONE, plain};
-use crate::serving::{command_ended, entries_are, joined, session_ended};
+use crate::same::same;
+use crate::serving::{SERVE, command_ended, entries_are, joined, session_ended};
 use sessions::Reason;
 use std::alloc::Global;
 use std::process::Abort;
 use std::test::Fail;
 use view_commands::{Ended, Status};
 use view_ends::{DeskCall, MemDesk};
-
-/// The command of one session.
-const SERVE: &str = "serve a.las 1 j i o";
 
 /// An edit, and a view of what it left.
 const SCRIPT: &[u8] =
@@ -60,8 +58,8 @@ fn whole(alloc: Global) -> Result<Vec<u8>, Fail> {
 
 /// No session may have run.
 fn never_ran(rt: &impl Abort, ended: &Ended) {
-    assert_eq!(rt; ended.told.sessions.len(), 0);
-    assert_eq!(rt; ended.told.history.len(), 0);
+    let told = [ended.told.sessions.len(), ended.told.history.len()];
+    same(rt, &told, &[0, 0], "sessions and entries");
 }
 
 /// Serves with an opening that fails, of the word at this place.

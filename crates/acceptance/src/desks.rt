@@ -1,4 +1,5 @@
 use crate::plain::words;
+use crate::same::same;
 use std::alloc::Global;
 use std::process::Abort;
 use std::test::Fail;
@@ -79,14 +80,14 @@ pub(crate) fn ends(
     status: Status,
 ) -> Result<(), Fail> {
     let got = command(alloc, desk, line)?.status;
-    assert_eq!(rt; got, status, "{line}");
+    same(rt, &got, &status, line);
     Ok(())
 }
 
 /// The desk has to hold these files, after what `told` names.
 pub(crate) fn holds(rt: &impl Abort, desk: &impl Shelf, files: &[File], told: &str) {
     for (name, bytes) in files {
-        assert_eq!(rt; desk.file(name), Some(*bytes), "{name} after {told}");
+        same(rt, &desk.file(name), &Some(*bytes), told);
     }
 }
 

@@ -1,6 +1,7 @@
-ghost use Rattle.std.specs.Prelude.{◌≤◌, None};
+ghost use Rattle.std.specs.Prelude.{◌≡◌, ◌≤◌, [], None, IfOk};
 
 use crate::plain::{ONE, plain};
+use crate::same::same;
 use las_survey::load;
 use plain_picture::Scene;
 use sessions::{Reason, SessionEnd, serve_alone};
@@ -67,7 +68,9 @@ impl<'a> Sink for Hearing<'a> {
 }
 
 /// A scene of one point, for one worker.
-fn scene(rt: &impl Abort, alloc: Global) -> Result<Scene, Fail> {
+fn scene(rt: &impl Abort, alloc: Global) -> Result<Scene, Fail>
+    ensures { IfOk result (λ scene. (1 ≤ scene.workers) × (scene.workers ≤ 64)) }
+{
     let mut file = StillSource::new(plain(alloc, &ONE)?);
     let survey = load(alloc, &mut file).expect(rt, "a survey");
     Ok(Scene {
@@ -76,37 +79,34 @@ fn scene(rt: &impl Abort, alloc: Global) -> Result<Scene, Fail> {
     })
 }
 
-/// A session has to have ended well, with two edits.
-fn made_two_edits(rt: &impl Abort, end: &SessionEnd, history: &History) {
-    assert_eq!(rt; end.reason, Reason::Finished);
-    assert_eq!(rt; end.marks.as_slice(), [1, 2].as_slice());
-    assert_eq!(rt; history.len(), 2);
-}
-
-/// Serves the user over a scene.
-fn serves(rt: &impl Abort, alloc: Global, scene: &Scene, heard: &Cell<u64>) {
+/// Serves the user over a scene, and answers how that ended.
+fn serves(alloc: Global, scene: &Scene, history: &mut History, heard: &Cell<u64>) -> SessionEnd
+    requires workers { (1 ≤ scene.now.workers) × (scene.now.workers ≤ 64) }
+    requires empty { history.old.items ≡ [] }
+{
     let mut source = Asking {
         heard,
         at: 0,
         faults: 0,
     };
     let mut sink = Hearing { heard };
-    let mut history = History::new(alloc);
-    let end = serve_alone(
-        alloc,
-        scene,
-        &mut history,
-        &mut source,
-        &mut sink,
-        &NoBeside,
-    );
-    made_two_edits(rt, &end, &history);
+    serve_alone(alloc, scene, history, &mut source, &mut sink, &NoBeside)
+}
+
+/// A session has to have ended well, with two edits that were heard of in 22 bytes.
+fn made_two_edits(rt: &impl Abort, end: &SessionEnd, history: &History, heard: u64) {
+    same(rt, &end.reason, &Reason::Finished, "the session");
+    same(rt, &end.marks.as_slice(), &[1, 2].as_slice(), "marks");
+    same(rt, &history.len(), &2, "entries");
+    same(rt, &heard, &22, "heard");
 }
 
 #[test]
 fn a_line_is_answered_before_the_next_is_asked_for(rt: HostRuntime) -> Result<(), Fail> {
     let heard = Cell::new(0);
-    serves(&rt, rt.alloc(), &scene(&rt, rt.alloc())?, &heard);
-    assert_eq!(rt; heard.get(), 22);
+    let scene = scene(&rt, rt.alloc())?;
+    let mut history = History::new(rt.alloc());
+    let end = serves(rt.alloc(), &scene, &mut history, &heard);
+    made_two_edits(&rt, &end, &history, heard.get());
     Ok(())
 }

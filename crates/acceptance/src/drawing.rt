@@ -1,5 +1,6 @@
 use crate::desks::{File, Shelf, fill, leaves};
 use crate::plain::{ONE, Record, gapped, patched, plain, plain_of, words};
+use crate::same::same;
 use std::alloc::Global;
 use std::process::Abort;
 use std::test::Fail;
@@ -109,17 +110,20 @@ fn the_legacy_number_is_not_read_where_the_other_is_not_0(rt: HostRuntime) -> Re
 
 /// The picture of 768 by 1 pixels has to be black but for its last, which shows class 2.
 fn is_black_to_its_end(rt: &impl Abort, picture: &[u8]) {
-    assert_eq!(rt; picture.len(), 2317);
-    assert!(rt; picture.starts_with(b"P6\n768 1\n255\n"));
     let black = picture.iter().skip(13).take(2301);
-    assert!(rt; black.copied().all(|byte| byte == 0));
-    assert!(rt; picture.ends_with(b"\xC6\x86\xFA"));
+    let facts = [
+        picture.len() == 2317,
+        picture.starts_with(b"P6\n768 1\n255\n"),
+        black.copied().all(|byte| byte == 0),
+        picture.ends_with(b"\xC6\x86\xFA"),
+    ];
+    same(rt, &facts, &[true; 4], "the picture");
 }
 
 /// Draws by `draw` itself, which has to end well.
 fn drawn(rt: &impl Abort, alloc: Global, desk: &mut StillDesk, line: &str) -> Result<(), Fail> {
     let status = draw(alloc, &words(alloc, line)?, desk, &NoBeside);
-    assert_eq!(rt; status, Status::Done);
+    same(rt, &status, &Status::Done, line);
     Ok(())
 }
 
@@ -144,7 +148,7 @@ fn draws_sized(
     size: usize,
     picture: &[u8],
 ) -> Result<(), Fail> {
-    assert_eq!(rt; survey.len(), size);
+    same(rt, &survey.len(), &size, "bytes");
     draws(rt, alloc, survey, ONE_PIXEL, picture)
 }
 

@@ -1,6 +1,7 @@
 ghost use Rattle.std.specs.Prelude.{ℕ, List, Option};
 
 use crate::plain::{ONE, plain};
+use crate::same::same;
 use las_survey::{Survey, load};
 use std::alloc::Global;
 use std::process::Abort;
@@ -59,8 +60,8 @@ fn comes_whole(
 
 /// The survey has to have these bytes and one record.
 fn is_whole(rt: &impl Abort, survey: &Survey, bytes: &[u8]) {
-    assert_eq!(rt; survey.bytes(), bytes);
-    assert_eq!(rt; survey.records(), 1);
+    same(rt, &survey.bytes(), &bytes, "bytes");
+    same(rt, &survey.records(), &1, "records");
 }
 
 #[test]
@@ -74,8 +75,8 @@ fn a_survey_that_comes_byte_by_byte_is_the_same(rt: HostRuntime) -> Result<(), F
 
 /// The sink has to get the piece whole.
 fn goes_whole(rt: &impl Abort, sink: &mut DripSink, piece: &[u8]) {
-    assert_eq!(rt; give_all(sink, piece), Ok(()));
-    assert_eq!(rt; sink.inner.got(), piece);
+    same(rt, &give_all(sink, piece), &Ok(()), "given");
+    same(rt, &sink.inner.got(), &piece, "got");
 }
 
 #[test]

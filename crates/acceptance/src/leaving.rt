@@ -2,6 +2,8 @@ use crate::desks::{File, Shelf, command, fill, holds};
 use crate::drawing::ONE_PIXEL;
 use crate::parts::parts;
 use crate::plain::{ONE, gapped, patched, plain};
+use crate::same::same;
+use crate::serving::SERVE;
 use las_survey::{HeaderFault, SurveyFault};
 use std::alloc::Global;
 use std::process::Abort;
@@ -11,7 +13,7 @@ use view_commands::{Ended, Status};
 use view_ends::{DeskCall, MemDesk};
 
 /// A command of each kind that reads a survey.
-const COMMANDS: [&str; 3] = [ONE_PIXEL, "info a.las a.txt", "serve a.las 1 j i o"];
+const COMMANDS: [&str; 3] = [ONE_PIXEL, "info a.las a.txt", SERVE];
 
 /// The other files of the three commands.
 const OTHERS: [File; 5] = [
@@ -53,9 +55,9 @@ fn desk_of(alloc: Global, files: &[File], calls: &[Call]) -> Result<MemDesk, Fai
 
 /// A command has to have ended so, and no session to have run.
 fn refused(rt: &impl Abort, ended: &Ended, line: &str, status: Status) {
-    assert_eq!(rt; ended.status, status, "{line}");
-    assert_eq!(rt; ended.told.sessions.len(), 0, "{line}");
-    assert_eq!(rt; ended.told.history.len(), 0, "{line}");
+    same(rt, &ended.status, &status, line);
+    let told = [ended.told.sessions.len(), ended.told.history.len()];
+    same(rt, &told, &[0, 0], line);
 }
 
 /// Runs a line over a desk with these files and the others, on which these calls are to fail: it
@@ -69,7 +71,8 @@ fn leaves_all(
     status: Status,
 ) -> Result<(), Fail> {
     let mut desk = desk_of(alloc, files, calls)?;
-    refused(rt, &command(alloc, &mut desk, line)?, line, status);
+    let ended = command(alloc, &mut desk, line)?;
+    refused(rt, &ended, line, status);
     holds(rt, &desk, &OTHERS, line);
     holds(rt, &desk, files, line);
     Ok(())
@@ -170,9 +173,12 @@ fn refuses_cut(rt: &impl Abort, alloc: Global, survey: &[u8], all: &[u8]) -> Res
         have: 394,
     };
     let extended = SurveyFault::Evlr { k: 0, at: 557 };
-    refuses(rt, alloc, survey.get(..374).unwrap_or(&[]), have_374)?;
-    refuses(rt, alloc, survey.get(..394).unwrap_or(&[]), points)?;
-    refuses(rt, alloc, all.get(..620).unwrap_or(&[]), extended)
+    let cut = survey.get(..374).unwrap_or(&[]);
+    refuses(rt, alloc, cut, have_374)?;
+    let cut = survey.get(..394).unwrap_or(&[]);
+    refuses(rt, alloc, cut, points)?;
+    let cut = all.get(..620).unwrap_or(&[]);
+    refuses(rt, alloc, cut, extended)
 }
 
 #[test]
@@ -194,6 +200,13 @@ fn a_record_that_runs_into_the_points_leaves_every_file(rt: HostRuntime) -> Resu
     refuses_patched(&rt, rt.alloc(), survey.as_slice(), 96, 173, fault)
 }
 
+/// The desk has to hold all files as they were, but this output.
+fn holds_but(rt: &impl Abort, desk: &MemDesk, survey: &[u8], out: &[u8]) {
+    holds(rt, desk, &[("o", out), ("a.las", survey)], SERVE);
+    holds(rt, desk, &OTHERS[..3], SERVE);
+    holds(rt, desk, &OTHERS[4..], SERVE);
+}
+
 /// Serves over a whole survey with openings that fail: the word at this place has to be named, and
 /// the output to have these bytes; all others stay.
 fn opening_fails(
@@ -204,13 +217,10 @@ fn opening_fails(
     at: u32,
     out: &[u8],
 ) -> Result<(), Fail> {
-    let line = "serve a.las 1 j i o";
     let mut desk = desk_of(alloc, &[("a.las", survey)], calls)?;
-    let ended = command(alloc, &mut desk, line)?;
-    refused(rt, &ended, line, Status::OpenFault { at });
-    holds(rt, &desk, &[("o", out), ("a.las", survey)], line);
-    holds(rt, &desk, &OTHERS[..3], line);
-    holds(rt, &desk, &OTHERS[4..], line);
+    let ended = command(alloc, &mut desk, SERVE)?;
+    refused(rt, &ended, SERVE, Status::OpenFault { at });
+    holds_but(rt, &desk, survey, out);
     Ok(())
 }
 

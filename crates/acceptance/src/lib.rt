@@ -25,6 +25,8 @@ mod plain;
 #[cfg(test)]
 mod refusals;
 #[cfg(test)]
+mod same;
+#[cfg(test)]
 mod serving;
 #[cfg(test)]
 mod telling;

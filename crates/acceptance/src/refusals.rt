@@ -1,5 +1,6 @@
 use crate::desks::{Shelf, command, fill};
 use crate::plain::{ONE, plain};
+use crate::same::same;
 use int_camera::CameraLimit;
 use las_survey::{HeaderFault, SurveyFault};
 use std::alloc::Global;
@@ -10,10 +11,10 @@ use view_ends::MemDesk;
 
 /// A command has to have ended so, with this code, and with a picture exactly where all was done.
 fn has_ended(rt: &impl Abort, desk: &MemDesk, line: &str, got: Status, status: Status, exit: u8) {
-    assert_eq!(rt; got, status, "{line}");
-    assert_eq!(rt; code(&got), exit, "{line}");
+    same(rt, &got, &status, line);
+    same(rt, &code(&got), &exit, line);
     let drawn = desk.bytes_of("a.ppm").is_some();
-    assert_eq!(rt; drawn, status == Status::Done, "{line}");
+    same(rt, &drawn, &(status == Status::Done), line);
 }
 
 /// Runs a line over a desk with this survey, the survey without its last byte and an empty file.
@@ -66,8 +67,8 @@ fn refuses_words(rt: &impl Abort, alloc: Global, survey: &[u8]) -> Result<(), Fa
     Ok(())
 }
 
-/// Refusals of words that fit.
-fn refuses_what_fits(rt: &impl Abort, alloc: Global, survey: &[u8]) -> Result<(), Fail> {
+/// Refusals of cameras out of range, and of words that fit and ask for what is not built.
+fn refuses_views(rt: &impl Abort, alloc: Global, survey: &[u8]) -> Result<(), Fail> {
     let wide = CameraLimit {
         place: 1,
         value: 4097,
@@ -77,7 +78,6 @@ fn refuses_what_fits(rt: &impl Abort, alloc: Global, survey: &[u8]) -> Result<()
         value: 16777216,
     };
     for (line, status, exit) in [
-        ("info b.las a.txt", Status::OpenFault { at: 1 }, 5),
         ("trial 5 100 2 t", Status::NotYet, 12),
         ("serve a.las 1 j i o k p", Status::NotYet, 12),
         (
@@ -100,6 +100,21 @@ fn refuses_what_fits(rt: &impl Abort, alloc: Global, survey: &[u8]) -> Result<()
             Status::Limit(many),
             3,
         ),
+    ] {
+        answers(rt, alloc, survey, line, status, exit)?;
+    }
+    Ok(())
+}
+
+/// Refusals of surveys, and a line that is answered.
+fn refuses_surveys(rt: &impl Abort, alloc: Global, survey: &[u8]) -> Result<(), Fail> {
+    let empty = SurveyFault::Header(HeaderFault::TooShort { have: 0 });
+    let short = SurveyFault::Points {
+        need: 395,
+        have: 394,
+    };
+    for (line, status, exit) in [
+        ("info b.las a.txt", Status::OpenFault { at: 1 }, 5),
         (
             "draw b.las a.ppm 1 ortho 1 1 0 0 0 1 0 0 0 1 0 0 0 1 1 1 0 10 class all show",
             Status::OpenFault { at: 1 },
@@ -107,15 +122,12 @@ fn refuses_what_fits(rt: &impl Abort, alloc: Global, survey: &[u8]) -> Result<()
         ),
         (
             "draw empty.las a.ppm 1 ortho 1 1 0 0 0 1 0 0 0 1 0 0 0 1 1 1 0 10 class all show",
-            Status::Survey(SurveyFault::Header(HeaderFault::TooShort { have: 0 })),
+            Status::Survey(empty),
             8,
         ),
         (
             "draw short.las a.ppm 1 ortho 1 1 0 0 0 1 0 0 0 1 0 0 0 1 1 1 0 10 class all show",
-            Status::Survey(SurveyFault::Points {
-                need: 395,
-                have: 394,
-            }),
+            Status::Survey(short),
             8,
         ),
         (
@@ -132,14 +144,16 @@ fn refuses_what_fits(rt: &impl Abort, alloc: Global, survey: &[u8]) -> Result<()
 #[test]
 fn each_refusal_of_words_names_what_is_wrong(rt: HostRuntime) -> Result<(), Fail> {
     let survey = plain(rt.alloc(), &ONE)?;
-    assert_eq!(rt; survey.len(), 395);
+    same(&rt, &survey.len(), &395, "bytes");
     refuses_words(&rt, rt.alloc(), survey.as_slice())?;
-    refuses_what_fits(&rt, rt.alloc(), survey.as_slice())
+    refuses_views(&rt, rt.alloc(), survey.as_slice())?;
+    refuses_surveys(&rt, rt.alloc(), survey.as_slice())
 }
 
 /// A status has to have this text.
 fn has_text(rt: &impl Abort, alloc: Global, status: Status, text: &str) -> Result<(), Fail> {
-    assert_eq!(rt; status.to_string(alloc)?.as_str(), text);
+    let told = status.to_string(alloc)?;
+    same(rt, &told.as_str(), &text, "the text");
     Ok(())
 }
 

@@ -1,7 +1,8 @@
-use crate::desks::{Shelf, command, fill, holds};
+use crate::desks::{Shelf, command, ends, fill, holds};
 use crate::drawing::{CLASS_2, CLASS_6};
 use crate::parts::parts;
 use crate::plain::{ONE, Record, plain};
+use crate::same::same;
 use sessions::{Reason, SessionEnd};
 use std::alloc::Global;
 use std::process::Abort;
@@ -11,7 +12,7 @@ use view_commands::{Ended, Status};
 use view_ends::StillDesk;
 
 /// The command of one session.
-const SERVE: &str = "serve a.las 1 j i o";
+pub(crate) const SERVE: &str = "serve a.las 1 j i o";
 
 /// Serves a script over a survey, which has to end so with these replies and this journal, and to
 /// leave the survey and the script.
@@ -39,7 +40,7 @@ pub(crate) fn session_ended(
     taken: u64,
     marks: &[u64],
 ) {
-    assert_eq!(rt; ended.told.sessions.len(), 1);
+    same(rt, &ended.told.sessions.len(), &1, "sessions");
     if let Some(end) = ended.told.sessions.as_slice().first() {
         is_end(rt, end, reason, taken, marks);
     }
@@ -47,24 +48,24 @@ pub(crate) fn session_ended(
 
 /// A session has to have ended for this reason, with so many bytes taken and these marks.
 fn is_end(rt: &impl Abort, end: &SessionEnd, reason: Reason, taken: u64, marks: &[u64]) {
-    assert_eq!(rt; end.reason, reason);
-    assert_eq!(rt; end.taken, taken);
-    assert_eq!(rt; end.marks.as_slice(), marks);
+    same(rt, &end.reason, &reason, "the session");
+    same(rt, &end.taken, &taken, "taken");
+    same(rt, &end.marks.as_slice(), &marks, "marks");
 }
 
 /// The command has to have ended with this status, and the journal for this reason.
 pub(crate) fn command_ended(rt: &impl Abort, ended: &Ended, status: Status, journal: Reason) {
-    assert_eq!(rt; ended.status, status);
-    assert_eq!(rt; ended.told.journal, journal);
+    same(rt, &ended.status, &status, "the command");
+    same(rt, &ended.told.journal, &journal, "the journal");
 }
 
 /// The entries of a history have to be these, all by session 1: `E` an edit, `P` a pin, `U` a pin
 /// of the newest version given back, and `?` any other.
 pub(crate) fn entries_are(rt: &impl Abort, history: &History, letters: &[u8]) {
-    assert_eq!(rt; history.len(), letters.len());
+    same(rt, &history.len(), &letters.len(), "entries");
     let mut newest = 0u64;
     for (entry, wanted) in history.as_slice().iter().zip(letters) {
-        assert_eq!(rt; letter(entry, newest), *wanted);
+        same(rt, &letter(entry, newest), wanted, "an entry");
         if let What::Publish(_) = entry.what {
             newest = newest.wrapping_add(1);
         }
@@ -263,6 +264,29 @@ fn a_journal_makes_the_same_edits_again(rt: HostRuntime) -> Result<(), Fail> {
     replies(&rt, rt.alloc(), &ONE, script, &wanted, journal)?;
     let again = b"edit -9 -9 -9 9 9 9 all 6\nedit 0 0 0 0 0 9 0-6 7\nsave\n";
     replies(&rt, rt.alloc(), &ONE, again, &wanted, journal)
+}
+
+/// Serves a script of canonical edits, which has to be the journal.
+fn journals(rt: &impl Abort, alloc: Global, script: &[u8]) -> Result<(), Fail> {
+    let mut desk = StillDesk::empty(alloc);
+    let survey = plain(alloc, &ONE)?;
+    fill(
+        alloc,
+        &mut desk,
+        &[("a.las", survey.as_slice()), ("i", script)],
+    )?;
+    ends(rt, alloc, &mut desk, SERVE, Status::Done)?;
+    holds(rt, &desk, &[("j", script)], SERVE);
+    Ok(())
+}
+
+#[test]
+fn a_long_journal_is_written_whole(rt: HostRuntime) -> Result<(), Fail> {
+    // 72,000 bytes, which pass 2^16.
+    let line = b"edit 0 0 0 9 9 9 0-31 6
+";
+    let script = joined(rt.alloc(), &[line.as_slice(); 3000])?;
+    journals(&rt, rt.alloc(), &script)
 }
 
 /// The file with all parts, its three records in the classes 6, 6 and 9, after these replies' heads.

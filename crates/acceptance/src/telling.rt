@@ -1,6 +1,7 @@
 use crate::desks::{File, leaves};
 use crate::parts::parts;
 use crate::plain::{gapped, words};
+use crate::same::same;
 use std::alloc::Global;
 use std::process::Abort;
 use std::test::Fail;
@@ -38,7 +39,7 @@ fn refuses(
     at: u32,
 ) -> Result<(), Fail> {
     let status = info(alloc, &words(alloc, line)?, desk);
-    assert_eq!(rt; status, Status::Words { at }, "{line}");
+    same(rt, &status, &Status::Words { at }, line);
     Ok(())
 }
 
