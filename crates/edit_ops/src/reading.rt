@@ -9,7 +9,7 @@ ghost use Rattle.edit_ops.specs.EditLine.{coordinate, coordinate_at, point_at, f
 use crate::edit::Edit;
 use crate::fault::EditFault;
 use class_bits::{ClassSet, ClassWord, top_class};
-use view_base::{Box3, Cursor, DigitsWord, Form, Point, Source, WordKind, read_number};
+use view_base::{Box3, Cursor, DigitsWord, Form, Point, WordKind, WordsOf, read_number};
 
 /// The words of an edit line.
 struct EditForm;
@@ -86,7 +86,7 @@ fn read_fields(line: &[u8]) -> Result<Fields, u32>
     ensures small { IfOk result (λ f. f.to < 10 ^ 20) }
     ensures misfit { IfErr result (λ at. misfit fits is_whole (words line.now) ≡ Some at) }
 {
-    let mut rest = Cursor::<EditForm>::new(Source::Line(line));
+    let mut rest = Cursor::<EditForm>::new(WordsOf::Line(line));
     rest.keyword(b"edit")?;
     let min = read_point(&mut rest)?;
     let max = read_point(&mut rest)?;

@@ -1,10 +1,10 @@
 -- What a session may have processed is known by its length.
-use Rattle.std.proofs.Common.{◌≡◌, ℕ, ◌⊎◌, ◌≤◌, List, length, take, sym, ap, ◌∙◌, inl, inr, arith}
+use Rattle.std.proofs.Common.{◌≡◌, ℕ, ◌≤◌, min, List, length, take, sym, ap, ◌∙◌, inl, inr, arith}
 use Rattle.std.proofs.lemmas.List.{length-take, take_all, take_min, take-append-le}
 use Rattle.sessions.specs.declared.end.Reason as reason
 use Rattle.sessions.specs.declared.end.Reason.TheVariants.{Finished, ReadFault, SessionLimit, WriteFault, Memory}
 use Rattle.sessions.specs.Lines.{Item, commands, whole}
-use Rattle.sessions.specs.Session.{IsFrontOf, within, MayProcess, Processed, AtMostOne}
+use Rattle.sessions.specs.Session.{LIMIT, AreFirstOf, MayProcess, Processed}
 
 -- a front of a list is known by its length
 front_is : (k : ℕ) (items all : List Item) → items ≡ take k all → items ≡ take (length items) all
@@ -25,21 +25,24 @@ of_commands format k t items h =
     front_is k items all h ∙ commands_front format t (length items) short
 
 -- what was given up
-of_either : (format : ℕ) (input : List ℕ) (taken : ℕ) (items : List Item) → IsFrontOf items (commands format (within input taken)) ⊎ ((within input taken ≡ input) × IsFrontOf items (whole format input)) → items ≡ take (length items) (whole format (within input taken))
-of_either format input taken items (inl h) = of_commands format h.0 (within input taken) items h.1
-of_either format input taken items (inr h) = front_is h.1.0 items (whole format (within input taken)) (h.1.1 ∙ ap (λ u. take h.1.0 (whole format u)) (sym h.0))
+of_either : (format : ℕ) (input text : List ℕ) (items : List Item) → AreFirstOf format input text items → items ≡ take (length items) (whole format text)
+of_either format input text items h = elim h.1 as (λ _. items ≡ take (length items) (whole format text)) [
+  | inl some ↦ of_commands format h.0 text items some
+  | inr all ↦ front_is h.0 items (whole format text) (all.1 ∙ ap (λ (u : List ℕ). take h.0 (whole format u)) (sym all.0))
+]
 
--- what a session may have processed begins what the part of its input that it took is
-may_front : (format : ℕ) (input : List ℕ) (taken : ℕ) (items : List Item) (reason : reason.Reason) → MayProcess format input taken items reason → items ≡ take (length items) (whole format (within input taken))
-may_front format input taken items Finished h =
-    let same : items ≡ whole format (within input taken) = h.1 ∙ ap (whole format) (sym h.0) in
-    same ∙ sym (take_all (length items) (whole format (within input taken)) (omega (arith, ap length same)))
-may_front format input taken items ReadFault h = of_commands format (length (commands format (within input taken))) (within input taken) items (h ∙ sym (take_all _ (commands format (within input taken)) (omega arith)))
-may_front format input taken items SessionLimit h = of_commands format (length (commands format (within input taken))) (within input taken) items (h ∙ sym (take_all _ (commands format (within input taken)) (omega arith)))
-may_front format input taken items WriteFault h = of_either format input taken items h
-may_front format input taken items Memory h = of_either format input taken items h
+-- what a session may have processed begins what the part of its input that it heard is
+may_front : (format : ℕ) (input text : List ℕ) (items : List Item) (reason : reason.Reason) → MayProcess format input text items reason → items ≡ take (length items) (whole format text)
+may_front format input text items Finished h =
+    let same : items ≡ whole format text = h.1 ∙ ap (whole format) (sym h.0) in
+    same ∙ sym (take_all (length items) (whole format text) (omega (arith, ap length same)))
+may_front format input text items ReadFault h = of_commands format (length (commands format text)) text items (h ∙ sym (take_all _ (commands format text) (omega arith)))
+may_front format input text items SessionLimit h = of_commands format (length (commands format text)) text items (h ∙ sym (take_all _ (commands format text) (omega arith)))
+may_front format input text items WriteFault h = of_either format input text items h
+may_front format input text items Memory h = of_either format input text items h
 
-pub processed_one : (format : ℕ) (input : List ℕ) (taken : ℕ) (reason : reason.Reason) → AtMostOne (Processed format input taken reason)
+pub processed_one : (format : ℕ) (input : List ℕ) (taken : ℕ) (reason : reason.Reason) (items others : List Item) → length items ≡ length others
+    → Processed format input taken reason items → Processed format input taken reason others → items ≡ others
 processed_one format input taken reason items others same h other =
-    let text = whole format (within input taken) in
-    may_front format input taken items reason h.items_are ∙ ap (λ n. take n text) same ∙ sym (may_front format input taken others reason other.items_are)
+    let text = take (min taken LIMIT) input in
+    may_front format input text items reason h.items_are ∙ ap (λ n. take n (whole format text)) same ∙ sym (may_front format input text others reason other.items_are)

@@ -5,21 +5,21 @@ use Rattle.std.proofs.lemmas.List.{append-nil, take-append-drop, take-append-le,
 use Rattle.std.proofs.Math.Seq.{take-append-add}
 use Rattle.view_ends.specs.Ends.{Gains, GainsPart}
 use Rattle.view_meaning.specs.Classes as meaning
-use Rattle.view_meaning.specs.Classes.{classes}
+use Rattle.view_meaning.specs.Survey.{format_of}
+use Rattle.view_meaning.specs.Classes.{changed, classes, saved}
 use Rattle.view_meaning.specs.Picture.{picture}
-use Rattle.view_meaning.specs.Saved.{saved}
-use Rattle.class_pages.specs.Changed.{changed}
 use Rattle.view_lines.specs.declared.command.Command.TheVariants.{View, Edit, Save}
 use Rattle.version_store.specs.declared.history.Entry.{Entry}
 use Rattle.sessions.specs.declared.talk.Talk.{Talk}
 use Rattle.sessions.specs.Lines.{Item}
 use Rattle.version_store.specs.Histories.{journal}
 use Rattle.sessions.specs.Replies.{version, head, with_length, reply, replies}
-use Rattle.sessions.specs.Session.{but_last, GotMost, Served}
+use Rattle.sessions.specs.Session.{GotMost, Served}
 use Rattle.sessions.specs.Listening.{Listened}
 use Rattle.sessions.specs.declared.end.Reason.{Reason}
 use Rattle.sessions.specs.Talk.{IsSound, Stays, Adds, IsTale, IsAnswering, GaveUp, AnsweredAll, entries_of, last_mark, mark_of, last_reply}
-use Rattle.sessions.proofs.Tales.{AreWithin, published, journal_more, tale_nothing, tale_length, tale_more, tale_told, tale_fresh}
+use Rattle.sessions.proofs.Processing.{processed_one}
+use Rattle.sessions.proofs.Tales.{AreWithin, published, journal_more, tale_nothing, tale_length, tale_more}
 
 -- a version does not change where more edits are published
 pub version-append : (b : List ℕ) (edits more : List meaning.Edit) (v : ℕ) → v ≤ length edits → version b (edits ++ more) v ≡ version b edits v
@@ -72,6 +72,10 @@ replies_more b items marks h item n mark tale =
     ∙ ap (λ (text : List ℕ). replies b edits items marks ++ text) (replies-one b edits item mark)
     ∙ ap (λ (js : List meaning.Edit). replies b js items marks ++ reply b edits item mark) (journal_more item n h)
     ∙ ap (λ (text : List ℕ). text ++ reply b edits item mark) (replies-more_edits b (journal h) (published item) items marks tale.newest)
+
+-- all but the last
+abbrev but_last : {X : Type 0} → List X → List X
+but_last xs = take (length xs - 1) xs
 
 -- the same, where the histories and the marks are told by equations
 abbrev pub AreOneMore : List ℕ → List Item → Item → List Entry → List ℕ → List Entry → List ℕ → Type 0
@@ -258,12 +262,16 @@ gave_up-line b all items (item ∷ other ∷ others) old new start before after 
 -- a session that was heard as far as its input goes was served
 pub served_listened : (b : List ℕ) (talk : Talk) (left old new : Option (List ℕ)) (reason : Reason) (taken : ℕ) → Listened b talk left old new reason taken
     → Served b [] talk.history.items 1 left old new talk.marks.items reason taken
+unfolding journal
 served_listened b talk left old new reason taken listened = record {
   input = listened.input;
   items = listened.items;
   input_is = listened.input_is;
   processed = listened.processed;
-  told = tale_told listened.items talk.marks.items talk.history.items listened.tale;
-  fresh = tale_fresh listened.items talk.marks.items talk.history.items listened.tale;
+  one = λ text. processed_one (format_of b) text taken reason;
+  begins = refl;
+  makes = listened.tale.makes;
+  rising = listened.tale.rising;
+  newer = λ k command is. omega arith;
   got = listened.got;
 }

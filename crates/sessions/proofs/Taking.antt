@@ -1,5 +1,5 @@
 -- What a session has listened to when it ends, by why it ends.
-use Rattle.std.proofs.Common.{◌≡◌, ℕ, ◌+◌, ◌≤◌, List, [], ◌++◌, length, take, Option, Some, None, IfSome, Result, Ok, Err, OnOk, OnErr, is_err, true, min, refl, sym, ap, subst, ◌∙◌, ◌⊎◌, inl, inr, arith, length-append}
+use Rattle.std.proofs.Common.{◌≡◌, ℕ, ◌+◌, ◌≤◌, List, [], ◌++◌, length, take, Option, Some, None, IfSome, Result, Ok, Err, OnOk, OnErr, is_err, true, min, refl, sym, ap, subst, ◌∙◌, inl, inr, arith, length-append}
 use Rattle.std.proofs.lemmas.List.{append-nil, append_assoc, take_all, length-take, take-append-le}
 use Rattle.std.proofs.Math.Seq.{take-append_seam}
 use Rattle.view_ends.specs.Ends.{Leaves, IsSpent}
@@ -13,11 +13,12 @@ use Rattle.sessions.specs.declared.pending.Pending.{Pending}
 use Rattle.sessions.specs.Lines.{Item, commands, whole}
 use Rattle.version_store.specs.Histories.{journal}
 use Rattle.sessions.specs.Replies.{replies}
-use Rattle.sessions.specs.Session.{LIMIT, IsFrontOf, within, MayProcess, GotMost, Got, Served}
+use Rattle.sessions.specs.Session.{LIMIT, AreFirstOf, MayProcess, GotMost, Got, Served}
 use Rattle.sessions.specs.Talk.{IsAnswering, GaveUp}
 use Rattle.sessions.specs.Hearing.{HasHeard}
 use Rattle.sessions.specs.Listening.{Listened, reason_of}
-use Rattle.sessions.proofs.Tales.{tale_nothing, tale_told, tale_fresh}
+use Rattle.sessions.proofs.Processing.{processed_one}
+use Rattle.sessions.proofs.Tales.{tale_nothing}
 
 -- what was taken begins the input, where it is told
 told_input : (old now : Option (List ℕ)) (t : List ℕ) → Leaves old t now → (rest : List ℕ) × IfSome old (λ all. all ≡ t ++ rest)
@@ -39,6 +40,9 @@ leaves_more (Some all) mid now t s h more =
     (after.0, after.1, h.2 ∙ ap (λ u. t ++ u) after.2 ∙ sym (append_assoc t s after.0))
 
 -- the part of an input that a session may process
+abbrev within : List ℕ → ℕ → List ℕ
+within input taken = take (min taken LIMIT) input
+
 within_is : (t rest : List ℕ) (taken : ℕ) → min taken LIMIT ≡ length t → within (t ++ rest) taken ≡ t
 within_is t rest taken h = rw h (take-append_seam t rest)
 
@@ -98,9 +102,9 @@ listened_end b t talk left mid start now taken many few taken_off ended h = reco
 }
 
 -- what is said of a session that gave up, whatever failed
-may_process : (format : ℕ) (input : List ℕ) (taken : ℕ) (items : List Item) (why : EndFault) → IsFrontOf items (commands format (within input taken)) ⊎ ((within input taken ≡ input) × IsFrontOf items (whole format input)) → MayProcess format input taken items (reason_of (Err why))
-may_process format input taken items fault.Failed h = h
-may_process format input taken items fault.Memory h = h
+may_process : (format : ℕ) (input text : List ℕ) (items : List Item) (why : EndFault) → AreFirstOf format input text items → MayProcess format input text items (reason_of (Err why))
+may_process format input text items fault.Failed h = h
+may_process format input text items fault.Memory h = h
 
 got_most : (b : List ℕ) (edits : List meaning.Edit) (items : List Item) (marks : List ℕ) (old new : Option (List ℕ)) (why : EndFault) → GotMost b edits items marks old new → Got b edits items marks old new (reason_of (Err why))
 got_most b edits items marks old new fault.Failed h = h
@@ -124,7 +128,7 @@ listened_gave_up b t talk left mid start now taken why many few taken_off h =
         came = omega (arith, length-append t told.0);
         limit = ((λ e. absurd (no_limit why e)), (λ e. absurd (omega arith)));
         few = omega arith;
-        items_are = may_process _ _ _ _ why (inl (h.count, front));
+        items_are = may_process _ _ _ _ why (h.count, inl front);
       };
       tale = h.tale;
       got = got_most _ _ _ _ _ _ why h.got;
@@ -140,7 +144,7 @@ last_gave_up b t talk left mid start now taken why many few taken_off ended h = 
     came = omega arith;
     limit = ((λ e. absurd (no_limit why e)), (λ e. absurd (omega arith)));
     few = omega arith;
-    items_are = may_process _ _ _ _ why (inr (within_all t taken many few, (h.count, refl)));
+    items_are = may_process _ _ _ _ why (h.count, inr (within_all t taken many few, refl));
   };
   tale = h.tale;
   got = got_most _ _ _ _ _ _ why h.got;
@@ -196,6 +200,7 @@ got_nothing b edits (Some all) = (0, omega arith, ap (λ (u : List ℕ). Some u)
 
 -- a session for which there was no memory
 pub served_nothing : (b : List ℕ) (left got : Option (List ℕ)) → Served b [] [] 1 left got got [] Memory 0
+unfolding journal
 served_nothing b left got =
     let input = some_input left in
     record {
@@ -206,9 +211,12 @@ served_nothing b left got =
         came = omega arith;
         limit = ((λ e. absurd cc), (λ e. absurd (omega arith)));
         few = omega arith;
-        items_are = inl (0, refl);
+        items_are = (0, inl refl);
       };
-      told = tale_told [] [] [] tale_nothing;
-      fresh = tale_fresh [] [] [] tale_nothing;
+      one = λ text. processed_one (format_of b) text 0 Memory;
+      begins = refl;
+      makes = tale_nothing.makes;
+      rising = tale_nothing.rising;
+      newer = λ k command is. omega arith;
       got = got_nothing b (journal []) got;
     }

@@ -1,18 +1,18 @@
 -- The history of one session alone, item by item.
-use Rattle.std.proofs.Common.{◌≡◌, ℕ, suc, ◌+◌, ◌-◌, ◌<◌, ◌≤◌, Bool, eqb, List, [], ◌∷◌, ◌++◌, length, get_or, Ok, Err, refl, sym, ap, subst, inl, inr, ◌∙◌, arith, length-append}
-use Rattle.std.specs.List.{filter, All}
+use Rattle.std.proofs.Common.{◌≡◌, ℕ, suc, ◌+◌, ◌-◌, ◌<◌, ◌≤◌, List, [], ◌∷◌, ◌++◌, length, get_or, Ok, Err, refl, sym, ap, subst, inl, inr, ◌∙◌, arith, length-append}
+use Rattle.std.specs.List.{All}
 use Rattle.std.proofs.lemmas.Bool.{cases_lt}
 use Rattle.std.proofs.lemmas.List.{append-nil, append_assoc, length_push, get_or_append_left, get_or_push, get_or_default}
-use Rattle.std.proofs.lemmas.List.Elements.{filter-append, All-append, All-nil, All-cons}
+use Rattle.std.proofs.lemmas.List.Elements.{All-append, All-nil, All-cons}
 use Rattle.view_meaning.specs.Classes as meaning
 use Rattle.view_lines.specs.declared.command.Command.TheVariants.{View, Edit, Save}
 use Rattle.version_store.specs.declared.history.What.TheVariants.{Publish, Pin, Unpin}
 use Rattle.version_store.specs.declared.history.Entry.{Entry}
 use Rattle.sessions.specs.Lines.{Item}
-use Rattle.version_store.specs.Histories.{journal, numbered, numbered_from, IsLegal, IsGivenBack}
-use Rattle.sessions.specs.Session.{own, Makes, Enters, Fresh}
+use Rattle.version_store.specs.Histories.{journal, numbered, entries_by, IsLegal, IsGivenBack}
+use Rattle.sessions.specs.Session.{Makes}
 use Rattle.sessions.specs.Talk.{by_one, entries_of, last_mark, mark_of, IsTale}
-use Rattle.version_store.proofs.HistoryLaws.{numbered-append, journal-publish, journal-pin, journal-unpin, IsLegal-none, IsLegal-publish, IsLegal-shown, IsGivenBack-none, IsGivenBack-publish, IsGivenBack-shown}
+use Rattle.version_store.proofs.HistoryLaws.{entries_by-append, journal-publish, journal-pin, journal-unpin, IsLegal-none, IsLegal-publish, IsLegal-shown, IsGivenBack-none, IsGivenBack-publish, IsGivenBack-shown}
 
 -- the edits that an item publishes
 abbrev pub published : Item → List meaning.Edit
@@ -121,31 +121,23 @@ Makes-length before (Ok Save ∷ items) (mark ∷ marks) (at ∷ []) made = absu
 Makes-length before (Ok Save ∷ items) (mark ∷ marks) (at ∷ after ∷ entries) made = ap (λ (n : ℕ). suc n) (Makes-length mark items marks entries made.3)
 
 pub tale_length : (items : List Item) (marks : List ℕ) (h : List Entry) → IsTale items marks h → length items ≡ length marks
-tale_length items marks h tale = Makes-length 0 items marks (own 1 0 h) tale.makes
+tale_length items marks h tale = Makes-length 0 items marks (entries_by 1 (numbered 0 h)) tale.makes
 
--- an entry is by this caller
-abbrev is_by : ℕ → Entry × ℕ → Bool
-is_by who at = eqb at.0.who who
-
-own-append : (who : ℕ) (h more : List Entry) → own who 0 (h ++ more) ≡ own who 0 h ++ filter (is_by who) (numbered_from (length (journal h)) more)
-unfolding own
-own-append who h more = ap (λ (l : List (Entry × ℕ)). filter (is_by who) l) (numbered-append h more) ∙ filter-append (is_by who) (numbered h) (numbered_from (length (journal h)) more)
-
-Makes_one : (item : Item) (n before : ℕ) → Makes before (item ∷ []) (mark_of item n before ∷ []) (filter (is_by 1) (numbered_from n (entries_of item n)))
-unfolding Makes numbered_from
+Makes_one : (item : Item) (n before : ℕ) → Makes before (item ∷ []) (mark_of item n before ∷ []) (entries_by 1 (numbered n (entries_of item n)))
+unfolding Makes numbered
 Makes_one (Ok (View view)) n before = (refl, omega arith, refl, tt)
 Makes_one (Ok (Edit edit)) n before = (refl, refl, tt)
 Makes_one (Ok Save) n before = (refl, omega arith, refl, tt)
 Makes_one (Err refusal) n before = (refl, tt)
 
-makes_more : (items : List Item) (marks : List ℕ) (h : List Entry) (item : Item) → Makes 0 items marks (own 1 0 h)
-    → Makes 0 (items ++ item ∷ []) (marks ++ mark_of item (length (journal h)) (last_mark marks) ∷ []) (own 1 0 (h ++ entries_of item (length (journal h))))
+makes_more : (items : List Item) (marks : List ℕ) (h : List Entry) (item : Item) → Makes 0 items marks (entries_by 1 (numbered 0 h))
+    → Makes 0 (items ++ item ∷ []) (marks ++ mark_of item (length (journal h)) (last_mark marks) ∷ []) (entries_by 1 (numbered 0 (h ++ entries_of item (length (journal h)))))
 makes_more items marks h item made =
     let n = length (journal h) in
-    let later = filter (is_by 1) (numbered_from n (entries_of item n)) in
+    let later = entries_by 1 (numbered n (entries_of item n)) in
     let one : Makes (last_from 0 marks) (item ∷ []) (mark_of item n (last_mark marks) ∷ []) later =
     subst (λ (k : ℕ). Makes k (item ∷ []) (mark_of item n (last_mark marks) ∷ []) later) (sym (last_from-last 0 marks)) (Makes_one item n (last_mark marks)) in
-    rw (own-append 1 h (entries_of item n)) (Makes-append 0 items marks (own 1 0 h) (item ∷ []) (mark_of item n (last_mark marks) ∷ []) later made one)
+    rw (entries_by-append 1 h (entries_of item n)) (Makes-append 0 items marks (entries_by 1 (numbered 0 h)) (item ∷ []) (mark_of item n (last_mark marks) ∷ []) later made one)
 
 -- no mark is below an earlier one
 abbrev pub AreRising : List ℕ → Type 0
@@ -193,7 +185,7 @@ mark_within (Err refusal) marks n within = let low = last_within marks n within 
 
 -- a session that has processed nothing
 pub tale_nothing : IsTale [] [] []
-unfolding Makes own numbered_from
+unfolding Makes numbered
 tale_nothing = record {
   makes = tt;
   mine = mine_none;
@@ -222,11 +214,3 @@ tale_more items marks h item tale =
           rw (newest_more item h)
           (within_push marks mark (n + length (published item)) (λ k inside. let low = tale.newest k inside in omega arith) (mark_within item marks n tale.newest));
     }
-
--- the tale of a session alone tells its entries, and its marks are fresh
-pub tale_told : (items : List Item) (marks : List ℕ) (h : List Entry) → IsTale items marks h → Enters [] h 1 items marks
-tale_told items marks h tale = record { begins = refl; makes = tale.makes }
-
-pub tale_fresh : (items : List Item) (marks : List ℕ) (h : List Entry) → IsTale items marks h → Fresh [] items marks
-unfolding journal
-tale_fresh items marks h tale = record { rising = tale.rising; newer = λ k command is. omega arith }

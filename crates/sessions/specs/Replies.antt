@@ -1,10 +1,8 @@
 -- What a session answers.
-use Rattle.std.specs.Prelude.{ℕ, ◌-◌, List, [], ◌∷◌, ◌++◌, length, take, codes, decimal, Ok, Err}
+use Rattle.std.specs.Prelude.{ℕ, ◌-◌, List, ◌++◌, length, take, flat_map, zip, codes, decimal, Ok, Err}
 use Rattle.view_meaning.specs.Classes as meaning
-use Rattle.view_meaning.specs.Classes.{classes}
+use Rattle.view_meaning.specs.Classes.{changed, classes, saved}
 use Rattle.view_meaning.specs.Picture.{picture}
-use Rattle.view_meaning.specs.Saved.{saved}
-use Rattle.class_pages.specs.Changed.{changed}
 use Rattle.view_lines.specs.Command.{refusal_code}
 use Rattle.view_lines.specs.declared.command.Command.TheVariants.{View, Edit, Save}
 use Rattle.sessions.specs.Lines.{Item}
@@ -31,6 +29,4 @@ reply b edits (Err refusal) v = codes "REFUSED " ++ decimal (refusal_code refusa
 
 -- the replies to items in order, each under its mark
 unfoldable pub replies : List ℕ → List meaning.Edit → List Item → List ℕ → List ℕ
-replies b edits [] marks = []
-replies b edits (item ∷ items) [] = []
-replies b edits (item ∷ items) (v ∷ marks) = reply b edits item v ++ replies b edits items marks
+replies b edits items marks = flat_map (λ (at : Item × ℕ). reply b edits at.0 at.1) (zip items marks)

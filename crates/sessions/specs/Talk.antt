@@ -10,9 +10,9 @@ use Rattle.version_store.specs.declared.history.What.TheVariants.{Publish, Pin, 
 use Rattle.version_store.specs.declared.history.Entry.{Entry}
 use Rattle.sessions.specs.declared.talk.Talk.{Talk}
 use Rattle.sessions.specs.Lines.{Item}
-use Rattle.version_store.specs.Histories.{journal, IsLegal, IsGivenBack}
+use Rattle.version_store.specs.Histories.{journal, numbered, entries_by, IsLegal, IsGivenBack}
 use Rattle.sessions.specs.Replies.{reply, replies}
-use Rattle.sessions.specs.Session.{Makes, own, GotMost}
+use Rattle.sessions.specs.Session.{Makes, GotMost}
 
 -- the classes that are kept are those of the newest version of the history
 pub record IsSound (b : List ℕ) (talk : Talk) : Type 0 where
@@ -76,7 +76,7 @@ AnsweredAll b old new (item ∷ others) before after done = Answered b old new i
 
 -- the history of one session alone that processed these items under these marks
 pub record IsTale (items : List Item) (marks : List ℕ) (h : List Entry) : Type 0 where
-  pub makes : Makes 0 items marks (own 1 0 h)
+  pub makes : Makes 0 items marks (entries_by 1 (numbered 0 h))
   pub mine : All (λ (entry : Entry). entry.who ≡ 1) h
   pub legal : IsLegal h
   pub back : IsGivenBack h

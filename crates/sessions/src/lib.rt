@@ -11,5 +11,5 @@ mod serving;
 mod talk;
 
 pub use end::{Ends, Marks, Reason, SessionEnd};
-pub use version_store::{Entry, History, What};
 pub use serving::serve_alone;
+pub use version_store::{Entry, History, What};

@@ -1,21 +1,20 @@
 ghost use Rattle.std.specs.Prelude.{◌≡◌, ℕ, ◌+◌, ◌≤◌, List, [], All};
 ghost use Rattle.std.specs.Arc.{arc_value};
 ghost use Rattle.view_ends.specs.Ends.{Rose};
-ghost use Rattle.view_meaning.specs.Survey.{format_of};
 ghost use Rattle.version_store.specs.Histories.{IsLegal, IsGivenBack};
 ghost use Rattle.sessions.specs.Hearing.{HasHeard};
 ghost use Rattle.sessions.specs.Listening.{Listened, Read, Wrote, reason_of};
-ghost use Rattle.sessions.specs.Session.{Served, Processed, AtMostOne};
+ghost use Rattle.sessions.specs.Session.{Served};
 ghost use Rattle.sessions.specs.declared.end.Reason.TheVariants.{Memory, ReadFault, WriteFault};
 
 use crate::end::{Marks, Reason, SessionEnd};
 use crate::hearing::{hear, hear_end};
-use version_store::History;
 use crate::pending::Pending;
 use crate::talk::Talk;
 use class_pages::base;
 use plain_picture::Scene;
 use std::alloc::Global;
+use version_store::History;
 use view_ends::{Beside, EndFault, Failed, Sink, Source};
 
 /// The most bytes of a session's input.
@@ -24,12 +23,13 @@ const LIMIT: usize = 1 << 20;
 /// How many bytes are asked of a source at once.
 const PIECE: usize = 1 << 14;
 
-/// Serves one session that alone edits: answers each line of its input in order, and writes each
-/// reply before it asks for bytes that come after the line.
+/// Serves one session that alone edits: answers each line of its input in order, and writes the
+/// replies to all lines that have ended before it asks the source for more.
 ///
 /// The history is empty at first, and then has the session's entries, with the number 1. Which
 /// lines it processed is known by its input, how many bytes of it were taken, why it ended and how
-/// many marks it has.
+/// many marks it has. Byte 2^20 + 1 is taken only once every line among the first 2^20 bytes has
+/// its reply whole; nothing can fail after that.
 pub fn serve_alone<I: Source, O: Sink, B: Beside>(
     alloc: Global,
     scene: &Scene,
@@ -41,7 +41,6 @@ pub fn serve_alone<I: Source, O: Sink, B: Beside>(
     requires workers { (1 ≤ scene.now.workers) × (scene.now.workers ≤ 64) }
     requires empty { history.old.items ≡ [] }
     ensures served { Served (arc_value scene.now.survey) [] history.new.items 1 (I.left source.old) (O.got sink.old) (O.got sink.new) result.marks.items result.reason result.taken }
-    ensures one { (input : List ℕ) → AtMostOne (Processed (format_of (arc_value scene.now.survey)) input result.taken result.reason) }
     ensures legal { IsLegal history.new.items }
     ensures mine { All (λ entry. entry.who ≡ 1) history.new.items }
     ensures given_back { IsGivenBack history.new.items }

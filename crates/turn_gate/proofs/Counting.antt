@@ -111,7 +111,7 @@ module _ {S E : Type 0} (replays : List E → Type 0) (maker : E → ℕ) (is : 
       }
 
   pub count_allows : (slots id : ℕ) (me : Me (Option S) (View E)) (more : List E) (e : E)
-      → more ≡ e ∷ [] → maker e ≡ me.0.who → length me.0.noted < 2 ^ 63 → me.0.live ≡ true → me.0.inside ≡ true
+      → more ≡ e ∷ [] → maker e ≡ me.0.who → length me.0.noted + 1 < 2 ^ 64 → me.0.live ≡ true → me.0.inside ≡ true
       → Allows (λ s. IsKeptSome replays maker is s.words s.homes s.views) slots id me 1 (λ n. (n + 1) % 2 ^ 64) (Counts more (step slots 1 1 0 none) me)
   count_allows slots id me more e one own small live inside = λ s kept homes at fits.
       let rule = kept.1 in

@@ -72,9 +72,8 @@ fn add<R: Abort>(
 
 fn push<R: Abort>(rt: &R, tape: &mut Tape, who: u32, number: u32)
     ensures tape { tape.new ≡ tape.old ++ (who, number) ∷ [] }
-    ensures length { length tape.new < 2 ^ 63 }
+    ensures length { length tape.new < 2 ^ 64 }
 {
-    assert!(rt; tape.items.len() < 1 << 62);
     tape.items.push((who, number)).expect(rt, "memory");
 }
 

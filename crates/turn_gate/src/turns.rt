@@ -110,7 +110,7 @@ pub(crate) fn count<S: Replayed, M: More<S::Entry>>(
     requires gate { pass.old.gate ≡ gate.now.name }
     requires turn { IsTurnOf turn.old pass.old }
     requires entry { (e : S.Entry) × (S.entries value.now ≡ turn.old.noted ++ e ∷ []) × (S.maker e ≡ pass.old.who) }
-    requires count { length (S.entries value.now) < 2 ^ 63 }
+    requires count { length (S.entries value.now) < 2 ^ 64 }
     ensures pass { pass.new ≡ record pass.old { mine = pass.old.mine ++ drop (length turn.old.noted) (S.entries value.now); turn = Some (S.entries value.now) } }
     ensures turn { turn.new ≡ record turn.old { noted = S.entries value.now } }
 {

@@ -1,18 +1,17 @@
 -- Histories over appends, and one more entry at their end.
-use Rattle.std.proofs.Common.{◌≡◌, ℕ, zero, suc, ◌+◌, ◌-◌, ◌<◌, ◌≤◌, Bool, true, false, ◌&&◌, ◌||◌, cond, eqb, nat_lt, List, [], ◌∷◌, ◌++◌, length, get_or, map, take, Some, refl, sym, ap, inl, inr, ◌∙◌, arith, length-append}
-use Rattle.std.specs.List.{filter, range_with_len, count_by, slice_get}
-use Rattle.std.proofs.lemmas.Bool.{cases_lt, ne_eqb, eq-eqb}
+use Rattle.std.proofs.Common.{◌≡◌, ℕ, ◌+◌, ◌<◌, ◌≤◌, Bool, true, false, ◌&&◌, cond, eqb, List, [], ◌∷◌, ◌++◌, length, take, Some, refl, sym, ap, inl, inr, ◌∙◌, arith, length-append}
+use Rattle.std.specs.List.{slice_get}
+use Rattle.std.proofs.lemmas.Bool.{cases_lt, eq-eqb}
 use Rattle.std.proofs.lemmas.List.{append-nil, take-append-le, take_at, get_or_append_left, get_or_push, length_push}
-use Rattle.std.proofs.lemmas.List.Elements.{filter-append, All-from_get_or}
-use Rattle.std.proofs.lemmas.List.Sums.{sum_by-append, sum_by-le}
+use Rattle.std.proofs.lemmas.List.Elements.{filter-append}
+use Rattle.std.proofs.lemmas.List.Sums.{sum_by-append}
 use Rattle.std.proofs.lemmas.Grind.{flat_map-append}
 use Rattle.std.proofs.lemmas.Option.{slice_get-get_or, slice_get_within}
 use Rattle.view_meaning.specs.Classes as meaning
-use Rattle.view_meaning.proofs.Nearest.{range_more}
 use Rattle.version_store.specs.declared.history.What.{What}
 use Rattle.version_store.specs.declared.history.What.TheVariants.{Publish, Pin, Unpin}
 use Rattle.version_store.specs.declared.history.Entry.{Entry}
-use Rattle.version_store.specs.Histories.{edit_in, journal, numbered, numbered_from, pins_of, unpins_of, pins, unpins, pins_out, IsLegal, IsGivenBack, held}
+use Rattle.version_store.specs.Histories.{edit_in, journal, numbered, entries_by, is_pin, is_unpin, how_many, IsLegal, IsGivenBack}
 
 pub journal-append : (h more : List Entry) → journal (h ++ more) ≡ journal h ++ journal more
 unfolding journal
@@ -31,29 +30,40 @@ length-journal (entry ∷ h) =
     one_at_most Pin = omega arith
     one_at_most (Unpin v) = omega arith
 
-pub numbered_from-append : (v : ℕ) (h more : List Entry) → numbered_from v (h ++ more) ≡ numbered_from v h ++ numbered_from (v + length (journal h)) more
-unfolding numbered_from journal
-numbered_from-append v [] more = let same : v ≡ v + 0 = omega arith in ap (λ (n : ℕ). numbered_from n more) same
-numbered_from-append v (entry ∷ h) more =
+pub numbered-append : (v : ℕ) (h more : List Entry) → numbered v (h ++ more) ≡ numbered v h ++ numbered (v + length (journal h)) more
+unfolding numbered journal
+numbered-append v [] more = let same : v ≡ v + 0 = omega arith in ap (λ (n : ℕ). numbered n more) same
+numbered-append v (entry ∷ h) more =
     let edits = edit_in entry.what in
     let n : ℕ = v + length edits in
     let same : n + length (journal h) ≡ v + length (edits ++ journal h) = omega (arith, length-append edits (journal h)) in
-    ap (λ (others : List (Entry × ℕ)). (entry, n) ∷ others) (numbered_from-append n h more ∙ ap (λ (m : ℕ). numbered_from n h ++ numbered_from m more) same)
+    ap (λ (others : List (Entry × ℕ)). (entry, n) ∷ others) (numbered-append n h more ∙ ap (λ (m : ℕ). numbered n h ++ numbered m more) same)
 
-pub numbered-append : (h more : List Entry) → numbered (h ++ more) ≡ numbered h ++ numbered_from (length (journal h)) more
-numbered-append h more =
+-- the entries of a caller in a longer history
+pub entries_by-append : (who : ℕ) (h more : List Entry)
+    → entries_by who (numbered 0 (h ++ more)) ≡ entries_by who (numbered 0 h) ++ entries_by who (numbered (length (journal h)) more)
+entries_by-append who h more =
     let same : 0 + length (journal h) ≡ length (journal h) = omega arith in
-    numbered_from-append 0 h more ∙ ap (λ (m : ℕ). numbered h ++ numbered_from m more) same
+    ap (entries_by who) (numbered-append 0 h more ∙ ap (λ (n : ℕ). numbered 0 h ++ numbered n more) same)
+    ∙ filter-append (λ (at : Entry × ℕ). eqb at.0.who who) (numbered 0 h) (numbered (length (journal h)) more)
 
-pub unpins-append : (who v : ℕ) (h more : List Entry) → unpins who v (h ++ more) ≡ unpins who v h + unpins who v more
-unfolding unpins
-unpins-append who v h more = sum_by-append (λ (entry : Entry). cond (unpins_of who v entry) 1 0) h more
+-- how many entries of a caller are such
+abbrev pub how_many_by : (What → ℕ → Bool) → ℕ → List Entry → ℕ
+how_many_by test who h = how_many test (entries_by who (numbered 0 h))
 
-pub pins-append : (who v : ℕ) (h more : List Entry) → pins who v (h ++ more) ≡ pins who v h + count_by (pins_of who v) (numbered_from (length (journal h)) more)
-unfolding pins
-pins-append who v h more =
-    ap (λ (l : List (Entry × ℕ)). count_by (pins_of who v) l) (numbered-append h more)
-    ∙ sum_by-append (λ (at : Entry × ℕ). cond (pins_of who v at) 1 0) (numbered h) (numbered_from (length (journal h)) more)
+-- one entry, which is such or not, by this caller or not
+how_many_one : (test : What → ℕ → Bool) (entry : Entry) (n : ℕ) (mine : Bool) → how_many test (cond mine ((entry, n) ∷ []) []) ≡ cond (mine && test entry.what n) 1 0
+how_many_one test entry n true = omega arith
+how_many_one test entry n false = refl
+
+pub how_many_by-push : (test : What → ℕ → Bool) (who : ℕ) (h : List Entry) (entry : Entry)
+    → how_many_by test who (h ++ entry ∷ []) ≡ how_many_by test who h + cond (eqb entry.who who && test entry.what (length (journal h) + length (edit_in entry.what))) 1 0
+unfolding numbered
+how_many_by-push test who h entry =
+    let n = length (journal h) + length (edit_in entry.what) in
+    ap (how_many test) (entries_by-append who h (entry ∷ []))
+    ∙ sum_by-append (λ (at : Entry × ℕ). cond (test at.0.what at.1) 1 0) (entries_by who (numbered 0 h)) (entries_by who (numbered (length (journal h)) (entry ∷ [])))
+    ∙ ap (λ (more : ℕ). how_many_by test who h + more) (how_many_one test entry n (eqb entry.who who))
 
 -- an entry of a caller
 abbrev pub entry_by : ℕ → What → Entry
@@ -71,74 +81,42 @@ pub journal-unpin : (h : List Entry) (by v : ℕ) → journal (h ++ entry_by by 
 unfolding journal
 journal-unpin h by v = journal-append h (entry_by by (Unpin v) ∷ []) ∙ append-nil (journal h)
 
-pinned : (a b : Bool) → 0 + cond (a && true && b) 1 0 ≡ cond (a && b) 1 0
-pinned true true = refl
-pinned true false = refl
-pinned false true = refl
-pinned false false = refl
-
-not_pinned : (a b : Bool) → 0 + cond (a && false && b) 1 0 ≡ 0
-not_pinned true b = refl
-not_pinned false b = refl
-
-given : (a b : Bool) → 0 + cond (a && b) 1 0 ≡ cond (a && b) 1 0
-given true true = refl
-given true false = refl
-given false b = refl
-
-not_given : (a : Bool) → 0 + cond (a && false) 1 0 ≡ 0
-not_given true = refl
-not_given false = refl
-
-plus_none : (m n k : ℕ) → n ≡ m + k → k ≡ 0 → n ≡ m
-plus_none m n k sum none = omega arith
-
--- how often a caller pins version v in one entry, a pin of version n
+-- how often a caller pins version v, or gives a pin of it back, by one entry of another for version n
 abbrev pub once : ℕ → ℕ → ℕ → ℕ → ℕ
 once by n who v = cond (eqb by who && eqb n v) 1 0
 
-pub pins-pin : (who v by : ℕ) (h : List Entry) → pins who v (h ++ entry_by by Pin ∷ []) ≡ pins who v h + once by (length (journal h)) who v
-unfolding numbered_from
+none_more : (count : ℕ) (mine : Bool) → count + cond (mine && false) 1 0 ≡ count
+none_more count true = omega arith
+none_more count false = omega arith
+
+pub pins-pin : (who v by : ℕ) (h : List Entry) → how_many_by (is_pin v) who (h ++ entry_by by Pin ∷ []) ≡ how_many_by (is_pin v) who h + once by (length (journal h)) who v
 pins-pin who v by h =
     let n = length (journal h) in
     let same : n + 0 ≡ n = omega arith in
-    pins-append who v h (entry_by by Pin ∷ [])
-    ∙ ap (λ (m : ℕ). pins who v h + (0 + cond (eqb by who && true && eqb m v) 1 0)) same
-    ∙ ap (λ (m : ℕ). pins who v h + m) (pinned (eqb by who) (eqb n v))
+    how_many_by-push (is_pin v) who h (entry_by by Pin) ∙ ap (λ (m : ℕ). how_many_by (is_pin v) who h + once by m who v) same
 
-pub pins-unpin : (who v by u : ℕ) (h : List Entry) → pins who v (h ++ entry_by by (Unpin u) ∷ []) ≡ pins who v h
-unfolding numbered_from
-pins-unpin who v by u h =
-    plus_none (pins who v h) (pins who v (h ++ entry_by by (Unpin u) ∷ [])) (0 + cond (eqb by who && false && eqb (length (journal h) + 0) v) 1 0)
-    (pins-append who v h (entry_by by (Unpin u) ∷ []))
-    (not_pinned (eqb by who) (eqb (length (journal h) + 0) v))
+pub pins-unpin : (who v by u : ℕ) (h : List Entry) → how_many_by (is_pin v) who (h ++ entry_by by (Unpin u) ∷ []) ≡ how_many_by (is_pin v) who h
+pins-unpin who v by u h = how_many_by-push (is_pin v) who h (entry_by by (Unpin u)) ∙ none_more (how_many_by (is_pin v) who h) (eqb by who)
 
-pub pins-publish : (who v by : ℕ) (edit : meaning.Edit) (h : List Entry) → pins who v (h ++ entry_by by (Publish edit) ∷ []) ≡ pins who v h
-unfolding numbered_from
-pins-publish who v by edit h =
-    plus_none (pins who v h) (pins who v (h ++ entry_by by (Publish edit) ∷ [])) (0 + cond (eqb by who && false && eqb (length (journal h) + 1) v) 1 0)
-    (pins-append who v h (entry_by by (Publish edit) ∷ []))
-    (not_pinned (eqb by who) (eqb (length (journal h) + 1) v))
+pub pins-publish : (who v by : ℕ) (edit : meaning.Edit) (h : List Entry) → how_many_by (is_pin v) who (h ++ entry_by by (Publish edit) ∷ []) ≡ how_many_by (is_pin v) who h
+pins-publish who v by edit h = how_many_by-push (is_pin v) who h (entry_by by (Publish edit)) ∙ none_more (how_many_by (is_pin v) who h) (eqb by who)
 
-pub unpins-pin : (who v by : ℕ) (h : List Entry) → unpins who v (h ++ entry_by by Pin ∷ []) ≡ unpins who v h
-unfolding unpins
-unpins-pin who v by h = plus_none (unpins who v h) (unpins who v (h ++ entry_by by Pin ∷ [])) (unpins who v (entry_by by Pin ∷ [])) (unpins-append who v h (entry_by by Pin ∷ [])) (not_given (eqb by who))
+pub unpins-pin : (who v by : ℕ) (h : List Entry) → how_many_by (is_unpin v) who (h ++ entry_by by Pin ∷ []) ≡ how_many_by (is_unpin v) who h
+unpins-pin who v by h = how_many_by-push (is_unpin v) who h (entry_by by Pin) ∙ none_more (how_many_by (is_unpin v) who h) (eqb by who)
 
-pub unpins-publish : (who v by : ℕ) (edit : meaning.Edit) (h : List Entry) → unpins who v (h ++ entry_by by (Publish edit) ∷ []) ≡ unpins who v h
-unfolding unpins
-unpins-publish who v by edit h = plus_none (unpins who v h) (unpins who v (h ++ entry_by by (Publish edit) ∷ [])) (unpins who v (entry_by by (Publish edit) ∷ [])) (unpins-append who v h (entry_by by (Publish edit) ∷ [])) (not_given (eqb by who))
+pub unpins-publish : (who v by : ℕ) (edit : meaning.Edit) (h : List Entry) → how_many_by (is_unpin v) who (h ++ entry_by by (Publish edit) ∷ []) ≡ how_many_by (is_unpin v) who h
+unpins-publish who v by edit h = how_many_by-push (is_unpin v) who h (entry_by by (Publish edit)) ∙ none_more (how_many_by (is_unpin v) who h) (eqb by who)
 
-pub unpins-unpin : (who v by u : ℕ) (h : List Entry) → unpins who v (h ++ entry_by by (Unpin u) ∷ []) ≡ unpins who v h + once by u who v
-unfolding unpins
-unpins-unpin who v by u h = unpins-append who v h (entry_by by (Unpin u) ∷ []) ∙ ap (λ (m : ℕ). unpins who v h + m) (given (eqb by who) (eqb u v))
+pub unpins-unpin : (who v by u : ℕ) (h : List Entry) → how_many_by (is_unpin v) who (h ++ entry_by by (Unpin u) ∷ []) ≡ how_many_by (is_unpin v) who h + once by u who v
+unpins-unpin who v by u h = how_many_by-push (is_unpin v) who h (entry_by by (Unpin u))
 
 -- one more entry
-pub IsLegal-push : (h : List Entry) (entry : Entry) → IsLegal h → ((who v : ℕ) → entry ≡ entry_by who (Unpin v) → unpins who v h < pins who v h) → IsLegal (h ++ entry ∷ [])
+pub IsLegal-push : (h : List Entry) (entry : Entry) → IsLegal h → ((who v : ℕ) → entry ≡ entry_by who (Unpin v) → how_many_by (is_unpin v) who h < how_many_by (is_pin v) who h) → IsLegal (h ++ entry ∷ [])
 unfolding IsLegal
 IsLegal-push h entry legal last k who v here =
     let all = h ++ entry ∷ [] in
     let inside : k < length all = slice_get_within all k (entry_by who (Unpin v)) here in
-    elim (cases_lt k (length h)) as (λ _. unpins who v (take k all) < pins who v (take k all)) [
+    elim (cases_lt k (length h)) as (λ _. how_many_by (is_unpin v) who (take k all) < how_many_by (is_pin v) who (take k all)) [
       | inl old ↦
           let early : k ≤ length h = omega arith in
           let same : slice_get h k ≡ slice_get all k = slice_get-get_or h k entry old ∙ ap Some (sym (get_or_append_left h (entry ∷ []) entry k old)) ∙ sym (slice_get-get_or all k entry inside) in
@@ -165,7 +143,7 @@ IsGivenBack-shown by n h is back who v =
     let pin = h ++ entry_by by Pin ∷ [] in
     unpins-unpin who v by n pin
     ∙ ap (λ (m : ℕ). m + once by n who v) (unpins-pin who v by h ∙ back who v)
-    ∙ ap (λ (m : ℕ). pins who v h + once by m who v) is
+    ∙ ap (λ (m : ℕ). how_many_by (is_pin v) who h + once by m who v) is
     ∙ sym (pins-pin who v by h)
     ∙ sym (pins-unpin who v by n pin)
 
@@ -187,41 +165,5 @@ unfolding IsLegal
 IsLegal-none k who v here = absurd (cc)
 
 pub IsGivenBack-none : IsGivenBack []
-unfolding IsGivenBack pins unpins numbered_from
+unfolding IsGivenBack numbered
 IsGivenBack-none who v = refl
-
-none_pass : (p : ℕ → Bool) (n : ℕ) → ((v : ℕ) → v < n → p v ≡ false) → filter p (range_with_len 0 n) ≡ []
-none_pass p zero fails = refl
-none_pass p (suc n) fails =
-    let last : p n ≡ false = fails n (omega arith) in
-    ap (λ (l : List ℕ). filter p l) (range_more 0 n n (omega arith))
-    ∙ filter-append p (range_with_len 0 n) (n ∷ [])
-    ∙ rw (none_pass p n (λ v below. fails v (omega arith)), last) refl
-
-one_passes : (p : ℕ → Bool) (n : ℕ) → ((v : ℕ) → v < n → p v ≡ false) → p n ≡ true → filter p (range_with_len 0 (n + 1)) ≡ n ∷ []
-one_passes p n fails passes =
-    let next : n + 1 ≡ suc n = omega arith in
-    ap (λ (m : ℕ). filter p (range_with_len 0 m)) next
-    ∙ ap (λ (l : List ℕ). filter p l) (range_more 0 n n (omega arith))
-    ∙ filter-append p (range_with_len 0 n) (n ∷ [])
-    ∙ rw (none_pass p n fails, passes) refl
-
-pub pins_out-none : (callers : ℕ) (h : List Entry) (v : ℕ) → IsGivenBack h → pins_out callers h v ≡ 0
-unfolding IsGivenBack
-pins_out-none callers h v back =
-    let least = sum_by-le (λ (who : ℕ). pins who v h - unpins who v h) 0 (range_with_len 0 callers)
-    (All-from_get_or (λ (who : ℕ). pins who v h - unpins who v h ≤ 0) (range_with_len 0 callers) 0 (λ i inside. let same = back (get_or (range_with_len 0 callers) i 0) v in omega arith)) in
-    omega (arith, least)
-
--- where every pin was given back, the newest version alone is held
-pub held_current : (callers : ℕ) (h : List Entry) → IsGivenBack h → held callers h ≡ (length (journal h), 0) ∷ []
-unfolding held
-held_current callers h back =
-    let n = length (journal h) in
-    let none = λ (v : ℕ). pins_out-none callers h v back in
-    let test = λ (v : ℕ). eqb v n || nat_lt 0 (pins_out callers h v) in
-    let one : filter test (range_with_len 0 (n + 1)) ≡ n ∷ [] = one_passes test n
-    (λ v below. rw (ne_eqb v n (λ same. omega arith), none v) refl)
-    (rw (eq-eqb n n refl) refl) in
-    ap (λ (l : List ℕ). map (λ (v : ℕ). (v, pins_out callers h v)) l) one
-    ∙ ap (λ (m : ℕ). (n, m) ∷ []) (none n)

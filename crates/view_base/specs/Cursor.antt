@@ -2,21 +2,21 @@
 use Rattle.std.specs.Prelude.{◌≡◌, ℕ, ◌<◌, ◌≤◌, Bool, true, List, length, map, drop, string_bytes}
 use Rattle.view_base.specs.Text.{words}
 use Rattle.view_base.specs.Fitting.{word_at}
-use Rattle.view_base.specs.declared.cursor.Source.{Source}
-use Rattle.view_base.specs.declared.cursor.Source.TheVariants.{Line, Separate}
+use Rattle.view_base.specs.declared.cursor.WordsOf.{WordsOf}
+use Rattle.view_base.specs.declared.cursor.WordsOf.TheVariants.{Line, Separate}
 
 -- the words of a source
-abbrev pub all_words : Source → List (List ℕ)
+abbrev pub all_words : WordsOf → List (List ℕ)
 all_words (Line line) = words line.now
 all_words (Separate list) = map string_bytes list.now
 
 -- the words of a source from a position on: a byte of a line, or a place of a list
-abbrev pub words_from : Source → ℕ → List (List ℕ)
+abbrev pub words_from : WordsOf → ℕ → List (List ℕ)
 words_from (Line line) at = words (drop at line.now)
 words_from (Separate list) at = drop at (map string_bytes list.now)
 
 -- the last position of a source
-abbrev pub last_position : Source → ℕ
+abbrev pub last_position : WordsOf → ℕ
 last_position (Line line) = length line.now
 last_position (Separate list) = length list.now
 

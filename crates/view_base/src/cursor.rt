@@ -36,7 +36,7 @@ pub trait WordKind {
 /// Where words come from: those of a line between its blanks, or those of a command line, each of
 /// which may be empty or hold blanks.
 #[derive(Clone, Copy)]
-pub enum Source<'a> {
+pub enum WordsOf<'a> {
     Line(&'a [u8]),
     Separate(&'a [String]),
 }
@@ -49,7 +49,7 @@ struct Word<'a> {
 }
 
 /// The word at a position of a source, or `None` where none is left.
-fn word_from<'a>(source: Source<'a>, at: usize) -> Option<Word<'a>>
+fn word_from<'a>(source: WordsOf<'a>, at: usize) -> Option<Word<'a>>
     requires { at ≤ last_position source }
     ensures word { IfSome result
         (λ w. words_from source.entry at ≡ w.text.now ∷ words_from source.entry w.end) }
@@ -57,14 +57,14 @@ fn word_from<'a>(source: Source<'a>, at: usize) -> Option<Word<'a>>
     ensures none { IfNone result (words_from source.entry at ≡ []) }
 {
     match source {
-        Source::Line(line) => {
+        WordsOf::Line(line) => {
             let (start, end) = next_word(line, at)?;
             Some(Word {
                 text: &line[start..end],
                 end,
             })
         }
-        Source::Separate(list) => {
+        WordsOf::Separate(list) => {
             if at == list.len() {
                 return None;
             }
@@ -80,7 +80,7 @@ fn word_from<'a>(source: Source<'a>, at: usize) -> Option<Word<'a>>
 #[derive(Drop)]
 pub struct Cursor<'a, F: Form> {
     /// Where the words come from.
-    pub source: Source<'a>,
+    pub source: WordsOf<'a>,
     /// The position of the next word there.
     pub at: usize,
     /// The place of the next word, from 0.
@@ -93,7 +93,7 @@ pub struct Cursor<'a, F: Form> {
 
 impl<'a, F: Form> Cursor<'a, F> {
     /// Before the first word.
-    pub fn new(source: Source<'a>) -> Self
+    pub fn new(source: WordsOf<'a>) -> Self
         ensures source { result.source ≡ source.entry }
         ensures place { result.place ≡ 0 }
     {

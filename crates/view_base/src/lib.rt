@@ -11,7 +11,7 @@ mod place;
 mod text;
 
 pub use colour::{Colouring, Rgb};
-pub use cursor::{Cursor, Form, Source, WordKind};
+pub use cursor::{Cursor, Form, WordKind, WordsOf};
 pub use kinds::{DigitsWord, NumberWord};
 pub use listing::{Bytes, Listing, Words};
 pub use memory::OutOfMemory;

@@ -1,13 +1,10 @@
 ghost use Rattle.std.specs.Prelude.{◌≡◌, [], ◌≤◌, length, IfOk};
-ghost use Rattle.view_meaning.specs.Classes.{classes};
-ghost use Rattle.view_meaning.specs.Picture.{picture};
-ghost use Rattle.view_commands.specs.Draw.{Answers, AnswersLine, Draws, drawn};
-ghost use Rattle.view_commands.specs.Made.{WritesText};
+ghost use Rattle.view_commands.specs.Calls.{AnswersDraw};
+ghost use Rattle.view_commands.specs.Texts.{Draws, MakesText, drawn};
 ghost use Rattle.view_words.specs.CommandLine.{IsLine, texts};
 
-use crate::files::{SurveyRefusal, read_survey};
-use crate::made::{SURVEY, write_text};
 use crate::status::Status;
+use crate::texts::{read_survey, write_text};
 use class_pages::base;
 use int_camera::{Camera, CameraNumbers, Kind};
 use las_survey::Survey;
@@ -25,7 +22,7 @@ use view_words::{Row, is_built, numbers_of, read_row, text_at, workers};
 /// The picture is whole in memory before its file is opened, so no refusal before that touches a
 /// file. How many workers draw it changes no byte.
 pub fn draw<D: Desk, B: Beside>(alloc: Global, words: &[String], desk: &mut D, beside: &B) -> Status
-    ensures { Answers D.tells (D.says desk.old) (D.says desk.new) (texts words.now) result }
+    ensures { AnswersDraw D.tells (D.says desk.old) (D.says desk.new) (texts words.now) result }
 {
     match read_row(Row::Draw, words) {
         Ok(()) => draw_line(alloc, words, desk, beside),
@@ -42,7 +39,7 @@ pub(crate) fn draw_line<D: Desk, B: Beside>(
 ) -> Status
     requires line { IsLine Row.Draw (texts words.now) }
     requires long { 26 ≤ length words.now }
-    ensures { AnswersLine D.tells (D.says desk.old) (D.says desk.new) (texts words.now) result }
+    ensures { Draws D.tells (D.says desk.old) (D.says desk.new) (texts words.now) result }
 {
     if !is_built(words) {
         return Status::NotYet;
@@ -71,33 +68,12 @@ fn draw_file<D: Desk, B: Beside>(
     beside: &B,
 ) -> Status
     requires workers { (1 ≤ workers) × (workers ≤ 64) }
-    ensures { Draws D.tells (D.says desk.old) (D.says desk.new) name.now out.now camera.now result }
+    ensures { MakesText D.tells (D.says desk.old) (D.says desk.new) name.now out.now (λ b. drawn b camera.now) result }
 {
-    match read_survey(alloc, desk, name) {
-        Ok(survey) => draw_survey(alloc, survey, out, camera, workers, desk, beside),
-        Err(refusal) => match refusal {
-            SurveyRefusal::Open => Status::OpenFault { at: SURVEY },
-            SurveyRefusal::Read => Status::ReadFault { at: SURVEY },
-            SurveyRefusal::TooLong => Status::TooLong,
-            SurveyRefusal::Survey(fault) => Status::Survey(fault),
-            SurveyRefusal::Memory => Status::Memory,
-        },
-    }
-}
-
-/// Draws a survey into a file.
-fn draw_survey<D: Desk, B: Beside>(
-    alloc: Global,
-    survey: Survey,
-    out: &str,
-    camera: &Camera,
-    workers: u32,
-    desk: &mut D,
-    beside: &B,
-) -> Status
-    requires workers { (1 ≤ workers) × (workers ≤ 64) }
-    ensures { WritesText D.tells (D.says desk.old) (D.says desk.new) out.now (drawn survey camera.now) result }
-{
+    let survey = match read_survey(alloc, desk, name) {
+        Ok(survey) => survey,
+        Err(status) => return status,
+    };
     match picture_of(alloc, survey, camera, workers, beside) {
         Ok(bytes) => write_text(desk, out, bytes.as_slice()),
         Err(OutOfMemory) => Status::Memory,

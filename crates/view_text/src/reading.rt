@@ -9,7 +9,7 @@ use crate::fault::TextFault;
 use crate::kinds::{ColouringWord, ProjectionWord, WithheldWord};
 use crate::view_spec::{ViewSpec, view_by};
 use class_bits::ClassWord;
-use view_base::{Cursor, Form, NumberWord, Source};
+use view_base::{Cursor, Form, NumberWord, WordsOf};
 
 /// The words of a view.
 struct ViewForm;
@@ -44,7 +44,7 @@ fn read_numbers(rest: &mut Cursor<ViewForm>) -> Result<[i128; 18], u32>
 }
 
 /// What the words of a view say, or the first place where they don't fit.
-fn read_said(source: Source) -> Result<Said, u32>
+fn read_said(source: WordsOf) -> Result<Said, u32>
     ensures fit { OnOk result (misfit fits is_whole (all_words source.entry) ≡ None) }
     ensures built { IfOk result (λ s. s.built ≡ is_built (all_words source.entry)) }
     ensures numbers { IfOk result (λ s. s.numbers ≡ camera_numbers (all_words source.entry)) }
@@ -73,7 +73,7 @@ fn read_said(source: Source) -> Result<Said, u32>
 /// names the first word that doesn't fit; `NotYet` comes where all words fit and the view isn't
 /// drawn so far; `Limit` comes for any other view whose camera has a number out of its range.
 /// Takes no memory.
-pub fn read_view_from(source: Source) -> Result<ViewSpec, TextFault>
+pub fn read_view_from(source: WordsOf) -> Result<ViewSpec, TextFault>
     ensures view { result ≡ view_of (all_words source.entry) }
     ensures built { IfOk result (λ v. v ≡ by_class v.camera) }
 {
@@ -88,7 +88,7 @@ pub fn read_view(line: &[u8]) -> Result<ViewSpec, TextFault>
     ensures view { result ≡ view_of (words line.now) }
     ensures built { IfOk result (λ v. v ≡ by_class v.camera) }
 {
-    read_view_from(Source::Line(line))
+    read_view_from(WordsOf::Line(line))
 }
 
 #[cfg(test)]
@@ -183,7 +183,7 @@ mod tests {
     /// The place of the first of these words, with commas between them, that does not fit.
     fn misfit(alloc: Global, line: &str) -> Result<Option<u32>, AllocError> {
         let words = separate(alloc, line)?;
-        match read_view_from(Source::Separate(&words)) {
+        match read_view_from(WordsOf::Separate(&words)) {
             Err(TextFault::Line { at }) => Ok(Some(at)),
             _ => Ok(None),
         }
@@ -192,11 +192,26 @@ mod tests {
     #[test]
     fn separate_words_may_be_empty_or_hold_blanks(rt: HostRuntime) -> Result<(), AllocError> {
         for (line, at) in [
-            ("ortho,3,1,0,0,0,1,0,0,0,1,0,0,0,1,1,1,0,10,class,all,show", None),
-            ("ortho,3,1,0,0,0,1,0,0,0,1,0,0,0,1,1,1,0,10,class,all", Some(21)),
-            ("ortho,3,1,0,0,0,1,0,0,0,1,0,0,0,1,1,1,0,10,class,,show", Some(20)),
-            ("ortho,3,1,0,0,0,1,0,0,0,1,0,0,0,1,1,1,0,10,class,all,show ", Some(21)),
-            ("ortho,3,1,0,0,0,1,0,0,0,1,0,0,0,1,1,1,0,10,class,all,show,", Some(22)),
+            (
+                "ortho,3,1,0,0,0,1,0,0,0,1,0,0,0,1,1,1,0,10,class,all,show",
+                None,
+            ),
+            (
+                "ortho,3,1,0,0,0,1,0,0,0,1,0,0,0,1,1,1,0,10,class,all",
+                Some(21),
+            ),
+            (
+                "ortho,3,1,0,0,0,1,0,0,0,1,0,0,0,1,1,1,0,10,class,,show",
+                Some(20),
+            ),
+            (
+                "ortho,3,1,0,0,0,1,0,0,0,1,0,0,0,1,1,1,0,10,class,all,show ",
+                Some(21),
+            ),
+            (
+                "ortho,3,1,0,0,0,1,0,0,0,1,0,0,0,1,1,1,0,10,class,all,show,",
+                Some(22),
+            ),
         ] {
             assert_eq!(rt; misfit(rt.alloc(), line)?, at);
         }

@@ -7,7 +7,7 @@ ghost use Rattle.view_words.specs.CommandLine.{texts, IsLine, workers_place, vie
 
 use crate::refusing::{MAX_RECORDS, MAX_WORKERS, number_within};
 use crate::row::Row;
-use view_base::Source;
+use view_base::WordsOf;
 use view_text::{TextFault, ViewSpec, read_view_from};
 
 /// The text of the word at a place, from 0.
@@ -77,5 +77,5 @@ pub fn view_of_draw(words: &[String]) -> Result<ViewSpec, TextFault>
     ensures built { IfOk result (λ v. v ≡ by_class v.camera) }
     ensures line { IfErr result (λ fault. (at : ℕ) → fault ≡ TextFault.Line at → ⊥) }
 {
-    read_view_from(Source::Separate(&words[4..]))
+    read_view_from(WordsOf::Separate(&words[4..]))
 }

@@ -174,7 +174,10 @@ mod tests {
             "draw a b 1 ortho 3 2 0 0 0 1 0 0 0 1 0 0 0 1 1 1 0 10 class all show",
         )?;
         assert!(rt; read_row(Row::Draw, &draw).is_ok());
-        assert_eq!(rt; view_of_draw(&draw).map(|view| view.camera.width()).ok(), Some(3));
+        assert_eq!(rt;
+            view_of_draw(&draw).map(|view| view.camera.width()).ok(),
+            Some(3)
+        );
         Ok(())
     }
 

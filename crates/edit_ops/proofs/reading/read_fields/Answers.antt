@@ -1,5 +1,5 @@
 use Rattle.std.proofs.Common.{◌≡◌, ◌∙◌, arith}
-use Rattle.view_base.specs.declared.cursor.Source.TheVariants.{Line}
+use Rattle.view_base.specs.declared.cursor.WordsOf.TheVariants.{Line}
 use Rattle.edit_ops.proofs.EditLines.{fits-keyword, fits-classes, fits-digits, fits-further}
 use Rattle.edit_ops.proofs.reading.read_fields.Goals as goal
 

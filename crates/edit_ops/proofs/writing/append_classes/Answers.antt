@@ -6,7 +6,7 @@ use Rattle.edit_ops.proofs.writing.append_classes.Goals as goal
 
 pub returns-then-eq-clause-appended : goal.returns-then-eq-clause-appended
 returns-then-eq-clause-appended c =
-    c.append.ensures.appended ∙ ap (λ text. c.args.out.now.items ++ text) (sym (classes_text-all c.args.classes.now (rw c.all.ensures.value at (sym c.if-eq.ensures))))
+    c.append_within.ensures.appended ∙ ap (λ text. c.args.out.now.items ++ text) (sym (classes_text-all c.args.classes.now (rw c.all.ensures.value at (sym c.if-eq.ensures))))
 
 pub loop-first-preserved : goal.loop-first-preserved
 loop-first-preserved c =

@@ -8,7 +8,6 @@ use Rattle.sessions.specs.Talk.{IsSound}
 use Rattle.sessions.proofs.Adding.{sound_nothing}
 use Rattle.sessions.proofs.Replying.{served_listened}
 use Rattle.sessions.proofs.Heard.{heard_nothing}
-use Rattle.sessions.proofs.Processing.{processed_one}
 use Rattle.sessions.proofs.Tales.{tale_nothing}
 use Rattle.sessions.proofs.Taking.{served_nothing}
 use Rattle.sessions.proofs.serving.serve_alone.Goals as goal
@@ -40,12 +39,3 @@ listen-reason-requires-clause-heard g c κs within =
 
 pub returns-clause-served : goal.returns-clause-served
 returns-clause-served g c = served_listened _ c.listen-reason.new.talk _ _ _ _ _ c.listen-reason.ensures.listened
-
-pub returns-in_default-clause-one : goal.returns-in_default-clause-one
-returns-in_default-clause-one g c = λ input. processed_one _ input _ _
-
-pub returns-in_default-new-clause-one : goal.returns-in_default-new-clause-one
-returns-in_default-new-clause-one g c = λ input. processed_one _ input _ _
-
-pub returns-clause-one : goal.returns-clause-one
-returns-clause-one g c = λ input. processed_one _ input _ _
