@@ -3,9 +3,9 @@ ghost use Rattle.sessions.specs.Talk.{HasRoom, Stays, by_one, last_mark};
 ghost use Rattle.version_store.specs.declared.history.What.TheVariants.{Publish, Pin, Unpin};
 
 use crate::end::Marks;
-use version_store::{Entry, History, What};
 use class_pages::Classes;
 use edit_ops::Edit;
+use version_store::{Entry, History, What};
 use view_base::{OutOfMemory, Version};
 
 /// The number of the one session that there is.
