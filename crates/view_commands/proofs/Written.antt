@@ -8,11 +8,10 @@ use Rattle.sessions.specs.declared.end.Reason as reason
 use Rattle.sessions.specs.declared.end.Reason.TheVariants as why
 use Rattle.view_ends.specs.Desk.{Said}
 use Rattle.view_ends.specs.Ends.{Rose, RoseBy, AllStay, OthersStay}
-use Rattle.view_meaning.specs.Camera.{Lens}
 use Rattle.view_meaning.specs.Layout as layout
 use Rattle.view_meaning.specs.Layout.{IsLaid}
 use Rattle.view_commands.specs.Steps.{OnlyWrote}
-use Rattle.view_commands.specs.Texts.{IsRead, OnlyTook, NoSurvey, HoldsPart, KeepsText, Writes, Settles, SettlesFile, MakesText, drawn}
+use Rattle.view_commands.specs.Texts.{IsRead, OnlyTook, NoSurvey, HoldsPart, KeepsText, Writes, Settles, SettlesFile, MakesText}
 use Rattle.view_commands.specs.declared.status.Status as status
 use Rattle.view_commands.specs.declared.status.Status.TheVariants.{Done, Words, Limit, OpenFault, ReadFault, TooLong, Survey, WriteFault, SessionLimit, Memory, NotYet}
 
@@ -181,11 +180,3 @@ text-written tells old mid new survey out text b bytes status is laid read took 
       others = λ other apart. only.files other apart ∙ took.rest.files other;
       settled = read-settles tells old new survey b (Rose (old.writes out) (new.writes out) → ⊥) status laid reads (writes-calm tells old new out (text b) status writes);
     }
-
--- a picture that was drawn under these names and through this camera, where they are others by an equation
-pub drawn-same : (tells : Bool) (old new : Said) (survey out of into : List ℕ) (lens by : Lens) (status : status.Status) → survey ≡ of → out ≡ into → lens ≡ by
-    → MakesText tells old new survey out (λ (b : List ℕ). drawn b lens) status → MakesText tells old new of into (λ (b : List ℕ). drawn b by) status
-drawn-same tells old new survey out of into lens by status of_is into_is by_is made =
-    subst (λ (name : List ℕ). MakesText tells old new name into (λ (b : List ℕ). drawn b by) status) of_is
-    (subst (λ (name : List ℕ). MakesText tells old new survey name (λ (b : List ℕ). drawn b by) status) into_is
-    (subst (λ (l : Lens). MakesText tells old new survey out (λ (b : List ℕ). drawn b l) status) by_is made))

@@ -2,14 +2,14 @@
 use Rattle.std.specs.Prelude.{◌≡◌, ℕ, Bool, List, length, Some}
 use Rattle.survey_info.specs.Text.{info_text}
 use Rattle.view_ends.specs.Desk.{Said, Untouched}
-use Rattle.view_text.specs.ViewWords.{word_at}
+use Rattle.view_base.specs.Fitting.{word_at}
 use Rattle.view_words.specs.CommandLine.{all_rows, badword, IsLine}
 use Rattle.view_words.specs.declared.row.Row as row
 use Rattle.view_words.specs.declared.row.Row.TheVariants.{Draw, Info, Trial, Serve}
 use Rattle.view_commands.specs.declared.status.Status as status
 use Rattle.view_commands.specs.declared.status.Status.TheVariants.{Words, NotYet}
 use Rattle.view_commands.specs.declared.told.Ended.{Ended}
-use Rattle.view_commands.specs.Texts.{Draws, MakesText}
+use Rattle.view_commands.specs.Texts.{DrawsView, view_in, MakesText}
 use Rattle.view_commands.specs.Serve.{IsNothing, ServesOne}
 
 -- a command that ended so before it touched a file, and tells nothing
@@ -25,7 +25,7 @@ pub record RunsServe (tells : Bool) (old new : Said) (ws : List (List ℕ)) (end
 
 -- the command of a row whose words fit; one without sessions tells nothing beside its status
 abbrev pub RunsLine : row.Row → Bool → Said → Said → List (List ℕ) → Ended → Type 0
-RunsLine Draw tells old new ws ended = Draws tells old new ws ended.status × IsNothing ended.told
+RunsLine Draw tells old new ws ended = DrawsView tells old new ws (view_in ws) ended.status × IsNothing ended.told
 RunsLine Info tells old new ws ended = MakesText tells old new (word_at ws 1) (word_at ws 2) info_text ended.status × IsNothing ended.told
 RunsLine Trial tells old new ws ended = EndsAtOnce old new NotYet ended
 RunsLine Serve tells old new ws ended = RunsServe tells old new ws ended

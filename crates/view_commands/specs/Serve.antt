@@ -1,7 +1,7 @@
 -- What a `serve` with one pair of an IN and an OUT gives, and why it gives up.
 use Rattle.std.specs.Prelude.{◌≡◌, ◌≢◌, ℕ, ◌+◌, ◌≤◌, ◌⊎◌, ◌↔◌, Bool, IsTrue, List, [], ◌∷◌, ◌++◌, length, Option, Some, IsSome, All}
 use Rattle.std.specs.List.{flat_map}
-use Rattle.edit_ops.specs.Canonical.{canonical}
+use Rattle.edit_ops.specs.EditLine.{canonical}
 use Rattle.sessions.specs.declared.end.Reason as reason
 use Rattle.sessions.specs.declared.end.Reason.TheVariants as why
 use Rattle.sessions.specs.declared.end.SessionEnd.{SessionEnd}

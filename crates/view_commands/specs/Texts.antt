@@ -1,20 +1,20 @@
 -- What a command makes of a survey that it reads from a desk, and writes there as a text.
-use Rattle.std.specs.Prelude.{◌≡◌, ℕ, ◌+◌, ◌-◌, ◌<◌, ◌≤◌, ◌⊎◌, Bool, IsTrue, IsFalse, List, [], length, take, Option, Some, None, IsSome, IfSome}
-use Rattle.int_camera.specs.declared.numbers.CameraLimit.{CameraLimit}
-use Rattle.int_camera.specs.Limits.{first_outside, lens_of}
+use Rattle.std.specs.Prelude.{◌≡◌, ℕ, ◌+◌, ◌-◌, ◌<◌, ◌≤◌, ◌⊎◌, Bool, IsTrue, List, [], length, take, Some, IsSome, IfSome, Result, Ok, Err}
 use Rattle.las_survey.specs.Fault.{fault_of}
 use Rattle.las_survey.specs.declared.fault.SurveyFault.{SurveyFault}
 use Rattle.las_survey.specs.declared.loading.TheConstants.{LIMIT}
 use Rattle.sessions.specs.declared.end.Reason as reason
 use Rattle.sessions.specs.declared.end.Reason.TheVariants as why
+use Rattle.view_base.specs.Fitting.{word_at}
 use Rattle.view_ends.specs.Desk.{Said, Untouched}
 use Rattle.view_ends.specs.Ends.{Rose, RoseBy, AllStay, OthersStay}
-use Rattle.view_meaning.specs.Camera.{Lens, orthographic}
 use Rattle.view_meaning.specs.Classes.{classes}
 use Rattle.view_meaning.specs.Layout as layout
 use Rattle.view_meaning.specs.Layout.{IsLaid}
-use Rattle.view_meaning.specs.Picture.{by_class, picture}
-use Rattle.view_text.specs.ViewWords.{word_at, camera_numbers, is_built}
+use Rattle.view_meaning.specs.Picture.{View, picture}
+use Rattle.view_text.specs.ViewWords.{camera_numbers, is_built, view_by}
+use Rattle.view_text.specs.declared.fault.TextFault as text
+use Rattle.view_text.specs.declared.fault.TextFault.TheVariants as fault
 use Rattle.view_words.specs.CommandLine.{view_words}
 use Rattle.view_commands.specs.declared.places.TheConstants.{SURVEY, OUT}
 use Rattle.view_commands.specs.declared.status.Status as status
@@ -84,22 +84,17 @@ pub record MakesText (tells : Bool) (old new : Said) (survey out : List ℕ) (te
   pub others : OthersStay old.file new.file out
   pub settled : SettlesFile tells old new survey (Rose (old.writes out) (new.writes out) → ⊥) ended
 
--- the picture of a survey as the file itself has its classes, by class, through a camera
-abbrev pub drawn : List ℕ → Lens → List ℕ
-drawn b lens = picture b (classes b []) (by_class lens)
+-- the picture of a survey as the file itself has its classes
+abbrev pub drawn : List ℕ → View → List ℕ
+drawn b view = picture b (classes b []) view
 
--- the camera in the words of a `draw`
-abbrev pub lens_in : List (List ℕ) → Lens
-lens_in ws = lens_of orthographic (camera_numbers (view_words ws))
+-- how a `draw` is answered whose words ask for this view, or for one that can't be drawn
+abbrev pub DrawsView : Bool → Said → Said → List (List ℕ) → Result View text.TextFault → status.Status → Type 0
+DrawsView tells old new ws (Ok view) ended = MakesText tells old new (word_at ws 1) (word_at ws 2) (λ b. drawn b view) ended
+DrawsView tells old new ws (Err fault.NotYet) ended = (ended ≡ NotYet) × Untouched old new
+DrawsView tells old new ws (Err (fault.Limit limit)) ended = (ended ≡ Limit limit) × Untouched old new
+DrawsView tells old new ws (Err (fault.Line _)) ended = ⊥
 
--- the first camera number out of its range in the words of a `draw`, or none
-abbrev pub limit_in : List (List ℕ) → Option CameraLimit
-limit_in ws = first_outside orthographic (camera_numbers (view_words ws))
-
--- the words of a `draw` that fit are answered: a view that is not drawn so far by `not built yet`, and any
--- other by the first camera number out of its range, or else by its picture
-pub record Draws (tells : Bool) (old new : Said) (ws : List (List ℕ)) (ended : status.Status) : Type 0 where
-  pub not_built : IsFalse (is_built (view_words ws)) → (ended ≡ NotYet) × Untouched old new
-  pub limit : IsTrue (is_built (view_words ws)) → (limit : CameraLimit) → limit_in ws ≡ Some limit → (ended ≡ Limit limit) × Untouched old new
-  pub drawn : IsTrue (is_built (view_words ws)) → limit_in ws ≡ None
-      → MakesText tells old new (word_at ws 1) (word_at ws 2) (λ b. drawn b (lens_in ws)) ended
+-- the view that the words of a `draw` ask for, or why it can't be drawn
+abbrev pub view_in : List (List ℕ) → Result View text.TextFault
+view_in ws = let view = view_words ws in view_by (is_built view) (camera_numbers view)

@@ -2,7 +2,7 @@ ghost use Rattle.std.specs.Prelude.{◌≡◌, ◌≤◌, length, IfOk};
 ghost use Rattle.survey_info.specs.Text as told;
 ghost use Rattle.view_commands.specs.Calls.{AnswersInfo};
 ghost use Rattle.view_commands.specs.Texts.{MakesText};
-ghost use Rattle.view_text.specs.ViewWords.{word_at};
+ghost use Rattle.view_base.specs.Fitting.{word_at};
 ghost use Rattle.view_words.specs.CommandLine.{IsLine, texts};
 
 use crate::status::Status;

@@ -1,6 +1,6 @@
 ghost use Rattle.std.specs.Prelude.{◌≡◌, ◌≢◌, ◌≤◌, length};
 ghost use Rattle.view_commands.specs.Run.{Runs, RunsLine, RunsServe};
-ghost use Rattle.view_text.specs.ViewWords.{word_at};
+ghost use Rattle.view_base.specs.Fitting.{word_at};
 ghost use Rattle.view_words.specs.CommandLine.{IsLine, least_words, texts};
 
 use crate::drawing::draw_line;
