@@ -32,5 +32,7 @@ RunsLine Serve tells old new ws ended = RunsServe tells old new ws ended
 
 -- words that are refused are answered by the first refused one, and those that fit a row by its command
 pub record Runs (tells : Bool) (old new : Said) (ws : List (List ℕ)) (ended : Ended) : Type 0 where
+  -- the first refused word, or the number of words where more are needed, is the status, and nothing changed
   pub refused : (at : ℕ) → badword all_rows ws ≡ Some at → EndsAtOnce old new (Words at) ended
+  -- words that fit a row end as its command does
   pub line : (row : row.Row) → IsLine row ws → RunsLine row tells old new ws ended

@@ -81,27 +81,40 @@ OtherFilesStay old new output journal = (other : List ℕ) → other ≢ output 
 -- a session over a survey with these bytes, whose input has those that are left: its history, what its output
 -- and the journal hold, what was counted, and the status that follows
 pub record RunsSession (tells : Bool) (old new : Said) (journal_name input output b : List ℕ) (left : Option (List ℕ)) (ended : Ended) (end : SessionEnd) : Type 0 where
+  -- what the output had got when the session began: nothing, where the desk tells it
   pub start : Option (List ℕ)
   pub empty : IsTrue tells → start ≡ Some []
+  -- what it had got when the session ended
   pub got : Option (List ℕ)
+  -- the input was there
   pub there : IsTrue tells → IsSome left
+  -- which items were processed under which marks, the entries that they made, and their replies
   pub served : Served b [] ended.told.history.items 1 left start got end.marks.items end.reason end.taken
+  -- the history is legal, each entry is by session 1, and every pin was given back
   pub legal : IsLegal ended.told.history.items
   pub mine : All (λ (entry : Entry). entry.who ≡ 1) ended.told.history.items
   pub given_back : IsGivenBack ended.told.history.items
+  -- at the end the newest version alone is held, without a pin
   pub newest_held : held ended.told.history.items ≡ (length (journal ended.told.history.items), 0) ∷ []
+  -- the input was opened, and its count of bytes taken rose by what the session took
   pub taken : RoseBy end.taken (old.taken input) (new.taken input)
   pub opened : new.unopened input ≡ old.unopened input
+  -- its count of failed reads rose exactly where reading ended the session
   pub read : RoseWhere (end.reason ≡ why.ReadFault) (old.reads input) (new.reads input)
   -- what came of keeping the output
   pub kept : reason.Reason
   pub keeping : KeptSo old new output got kept
+  -- the output's count of failed writes rose exactly where writing or keeping it failed
   pub wrote : RoseWhere ((end.reason ≡ why.WriteFault) ⊎ (kept ≡ why.WriteFault)) (old.writes output) (new.writes output)
+  -- what the output got is its file, unless its count of refused keepings rose
   pub output_file : (Rose (old.unkept output) (new.unkept output) → ⊥) → new.file output ≡ got
+  -- the journal has the line of each published edit, or what came of its writing says why not
   pub journal_file : KeepsText tells old new journal_name (journal_text (journal ended.told.history.items)) ended.told.journal
+  -- the status is the first fault of session, output and journal
   pub status : ended.status ≡ status_of end.reason kept ended.told.journal
   -- a session is too long exactly where one byte too many came
   pub limit : (ended.status ≡ SessionLimit INPUT) ↔ (end.taken ≡ LIMIT + 1)
+  -- no other file changed
   pub files : OtherFilesStay old new output journal_name
 
 -- an input is no longer than it may be, and neither it nor what is written failed
@@ -124,5 +137,7 @@ Goes tells old new survey journal input output ended _ = ⊥
 
 -- a `serve` with one pair: how it went, and how it ends where nothing outside failed
 pub record ServesOne (tells : Bool) (old new : Said) (survey journal input output : List ℕ) (ended : Ended) : Type 0 where
+  -- no session, by a refusal with its cause, or one
   pub outcome : Goes tells old new survey journal input output ended ended.told.sessions.items
+  -- and the status where nothing outside failed
   pub settled : SettlesFile tells old new survey (IsCalm old new journal input output) ended.status

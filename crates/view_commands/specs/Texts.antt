@@ -23,8 +23,10 @@ use Rattle.view_commands.specs.declared.status.Status.TheVariants.{Done, Limit, 
 -- a name was opened and read to the end of its bytes, which are few enough for a survey, and nothing failed
 pub record IsRead (tells : Bool) (old new : Said) (name b : List ℕ) : Type 0 where
   pub few : length b ≤ LIMIT
+  -- these are all bytes of its file, where the desk tells them, and then it is there
   pub all : IfSome (old.file name) (λ file. file ≡ b)
   pub there : IsTrue tells → IsSome (old.file name)
+  -- all were counted as taken, and neither its opening nor its reading failed
   pub counted : RoseBy (length b) (old.taken name) (new.taken name)
   pub opened : new.unopened name ≡ old.unopened name
   pub unfailed : new.reads name ≡ old.reads name
@@ -67,9 +69,12 @@ Writes tells old new out bytes _ = ⊥
 -- how a command over a survey of these bytes ends where that was opened and read without a fault, and what else
 -- it needs has none; want of memory is always free
 pub record Settles (b : List ℕ) (calm : Type 0) (ended : status.Status) : Type 0 where
+  -- too many bytes end with `TooLong`
   pub too_long : LIMIT < length b → (ended ≡ TooLong) ⊎ (ended ≡ Memory)
+  -- few enough bytes with a fault end with the first of it
   pub not_laid : length b ≤ LIMIT → (fault : layout.Fault) → layout.fault b ≡ Some fault
       → ((found : SurveyFault) × (ended ≡ Survey found) × (fault_of found ≡ fault)) ⊎ (ended ≡ Memory)
+  -- and those that are laid out with `Done`
   pub laid : length b ≤ LIMIT → IsLaid b → calm → (ended ≡ Done) ⊎ (ended ≡ Memory)
 
 -- the same of the file of a name, where the desk tells its files
@@ -80,8 +85,11 @@ SettlesFile tells old new name calm ended = IsTrue tells → (b : List ℕ) → 
 -- what a command makes of the survey of one name and writes into the file of another: no survey came, or the
 -- text of its bytes was written; and no other file changed
 pub record MakesText (tells : Bool) (old new : Said) (survey out : List ℕ) (text : List ℕ → List ℕ) (ended : status.Status) : Type 0 where
+  -- no survey came, by its cause; or one that is laid out was read to its end, and its text was written, or why not
   pub outcome : NoSurvey tells old new survey ended ⊎ ((b : List ℕ) × IsLaid b × IsRead tells old new survey b × Writes tells old new out (text b) ended)
+  -- no other file changed
   pub others : OthersStay old.file new.file out
+  -- and the status where nothing outside failed
   pub settled : SettlesFile tells old new survey (Rose (old.writes out) (new.writes out) → ⊥) ended
 
 -- the picture of a survey as the file itself has its classes
