@@ -1,3 +1,4 @@
+pub mod Coming
 pub mod Kept
 pub mod Laid
 pub mod Refused
