@@ -1,4 +1,3 @@
-pub mod Coming
 pub mod Kept
 pub mod Laid
 pub mod Refused

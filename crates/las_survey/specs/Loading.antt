@@ -1,5 +1,5 @@
 -- What a load took.
-use Rattle.std.specs.Prelude.{◌≡◌, ℕ, ◌+◌, List, ◌++◌, length, Option}
+use Rattle.std.specs.Prelude.{◌≡◌, ℕ, ◌+◌, List, length, Option}
 use Rattle.view_ends.specs.Ends.{Leaves, IsSpent}
 
 -- these bytes were taken: they came off the front of what was left, and as many were counted
@@ -11,10 +11,3 @@ pub record Took (old : Option (List ℕ)) (before : ℕ) (bytes : List ℕ) (new
 pub record TookAll (old : Option (List ℕ)) (before : ℕ) (bytes : List ℕ) (new : Option (List ℕ)) (after : ℕ) : Type 0 where
   pub took : Took old before bytes new after
   pub ended : IsSpent new
-
--- so many bytes came off the front of what was left, and stand at the end of a list that is otherwise as before
-pub record CameInto (old : Option (List ℕ)) (items : List ℕ) (n : ℕ) (grown : List ℕ) (new : Option (List ℕ)) : Type 0 where
-  pub piece : List ℕ
-  pub long : length piece ≡ n
-  pub came : Leaves old piece new
-  pub at_end : grown ≡ items ++ piece

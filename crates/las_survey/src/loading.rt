@@ -1,7 +1,7 @@
-ghost use Rattle.std.specs.Prelude.{◌≡◌, ℕ, ◌+◌, ◌^◌, ◌≤◌, ◌<◌, [], List, length, Some, IfOk, OnOk, OnErr, IfSome, IsErrOf};
+ghost use Rattle.std.specs.Prelude.{◌≡◌, ℕ, ◌+◌, ◌^◌, ◌≤◌, ◌<◌, [], List, length, Some, IfOk, IfSome, IsErrOf};
 ghost use Rattle.las_survey.specs.Fault.{fault_of};
-ghost use Rattle.las_survey.specs.Loading.{CameInto, TookAll};
-ghost use Rattle.view_ends.specs.Ends.{IsSpent, Rose};
+ghost use Rattle.las_survey.specs.Loading.{TookAll};
+ghost use Rattle.view_ends.specs.Ends.{Rose};
 ghost use Rattle.view_meaning.specs.Layout as layout;
 ghost use Rattle.view_meaning.specs.Layout.{IsLaid};
 
@@ -106,37 +106,15 @@ pub fn load<S: Source>(alloc: Global, source: &mut S) -> Result<Survey, LoadFaul
     Survey::of(alloc, bytes)
 }
 
-/// An empty list with room for the bytes that are expected, as far as a survey may have them, and
-/// for one piece more, which is asked for at their end. A refusal of memory for a guess is no
-/// answer: what comes may fit all the same.
+/// An empty list with room for the bytes that are expected, as far as a survey may have them. A
+/// refusal of memory for a guess is no answer: what comes may fit all the same.
 fn room_for(alloc: Global, expected: u64) -> Bytes
     ensures { result.items ≡ [] }
 {
     let mut bytes = Bytes::new(alloc);
-    match bytes.reserve(expected.min(LIMIT as u64) as usize + PIECE) {
+    match bytes.reserve(expected.min(LIMIT as u64) as usize) {
         Ok(()) | Err(OutOfMemory) => bytes,
     }
-}
-
-/// Takes at most `most` bytes of a source straight into the room at a list's end, and answers how
-/// many came.
-fn take_into<S: Source>(source: &mut S, bytes: &mut Bytes, most: usize) -> Result<usize, Failed>
-    requires room { most ≤ bytes.old.spare }
-    requires short { length bytes.old.items + most ≤ LIMIT + 1 }
-    ensures came { IfOk result (λ n. CameInto (S.left source.old) bytes.old.items n bytes.new.items (S.left source.new)) }
-    ensures fits { IfOk result (λ n. n ≤ most) }
-    ensures count { IfOk result (λ n. S.taken source.new ≡ S.taken source.old + n) }
-    ensures end { IfOk result (λ n. n ≡ 0 → 0 < most → IsSpent (S.left source.new)) }
-    ensures calm { OnOk result (S.faults source.new ≡ S.faults source.old) }
-    ensures failed { OnErr result (Rose (S.faults source.old) (S.faults source.new)) }
-    ensures uncounted { OnErr result (S.taken source.new ≡ S.taken source.old) }
-    ensures later { S.faults source.old ≤ S.faults source.new }
-{
-    let from = bytes.len();
-    bytes.extend_by(most, 0);
-    let n = source.take(bytes.tail_mut(from))?;
-    bytes.cut(from + n);
-    Ok(n)
 }
 
 /// All bytes of a source, where they are few enough.
@@ -154,16 +132,17 @@ fn taken_from<S: Source>(alloc: Global, source: &mut S) -> Result<Bytes, LoadFau
     ensures no_more { (IsErrOf result LoadFault.TooLong → ⊥) → S.taken source.new ≤ S.taken source.old + LIMIT }
 {
     let mut bytes = room_for(alloc, source.expected());
+    let mut piece = [0u8; PIECE];
     loop {
-        let most = (LIMIT + 1 - bytes.len()).min(PIECE);
-        bytes.reserve(most)?;
-        match take_into(source, &mut bytes, most) {
+        let room = (LIMIT + 1 - bytes.len()).min(PIECE);
+        match source.take(&mut piece[..room]) {
             Err(Failed) => return Err(LoadFault::ReadFault),
             Ok(0) => return Ok(bytes),
-            Ok(_) => {
-                if bytes.len() > LIMIT {
+            Ok(n) => {
+                if bytes.len() + n > LIMIT {
                     return Err(LoadFault::TooLong);
                 }
+                bytes.append(&piece[..n])?;
             }
         }
     }
