@@ -157,13 +157,13 @@ pub record OldFaults : Type 0 where
   pub cut_1_2 : fault (take 226 (old 2 227 0 [])) ≡ Some (few_bytes 226)
   pub cut_1_3 : fault (take 234 (old 3 235 0 [])) ≡ Some (few_bytes 234)
   pub cut_1_4 : fault (take 374 (plain 0 [])) ≡ Some (few_bytes 374)
-  pub signed : fault (zeros 374) ≡ Some no_signature
-  pub unsigned : fault (zeros 226) ≡ Some (few_bytes 226)
-  pub small : fault (old 2 226 0 (two_records)) ≡ Some (small_header 226)
+  pub unsigned : fault (zeros 374) ≡ Some no_signature
+  pub unsigned_and_cut : fault (zeros 226) ≡ Some (few_bytes 226)
+  pub small : fault (old 2 226 0 two_records) ≡ Some (small_header 226)
   pub early : fault (old 1 227 2 two_records) ≡ Some (other_version 1 1)
   pub late : fault (old 5 227 2 two_records) ≡ Some (other_version 1 5)
   pub points : fault (old 3 235 3 two_records) ≡ Some (missing_points 295 275)
 
 old_faults : OldFaults
 unfolding u8_at u16_at u32_at u64_at evlrs_at evlr_count record_count points_end block_size header_faults vlr_at vlr_fits vlr_fault evlr_at evlr_fits evlr_fault fault
-old_faults = record { of_1_2 = refl; of_1_3 = refl; empty = refl; cut_1_2 = refl; cut_1_3 = refl; cut_1_4 = refl; signed = refl; unsigned = refl; small = refl; early = refl; late = refl; points = refl }
+old_faults = record { of_1_2 = refl; of_1_3 = refl; empty = refl; cut_1_2 = refl; cut_1_3 = refl; cut_1_4 = refl; unsigned = refl; unsigned_and_cut = refl; small = refl; early = refl; late = refl; points = refl }
