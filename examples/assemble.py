@@ -1,14 +1,22 @@
 #!/usr/bin/env python3
-"""Assembles small LAS 1.4 files, field by field, from the tables of LAS 1.4 R15.
+"""Assembles small LAS files, field by field, from the tables of LAS 1.2, 1.3 and 1.4 R15.
 
     python3 examples/assemble.py FOLDER
 
-writes into FOLDER, for each point data record format 0 to 10,
+writes into FOLDER, for each point data record format 0 to 10 of LAS 1.4,
 
     formatN.las        points alone, straight after the header
     formatN-full.las   VLRs (the WKT of a coordinate system, extra bytes; in formats with waveforms
                        a waveform packet descriptor), a gap before the points, extra bytes in each
                        record, EVLRs, and bytes after the last of them
+
+for each format 0 to 3 of LAS 1.2 and 0 to 5 of LAS 1.3,
+
+    las12-formatN.las, las13-formatN.las             points alone, straight after the header
+    las12-formatN-full.las, las13-formatN-full.las   VLRs (keys of a coordinate system, a text; in
+                       formats with waveforms a waveform packet descriptor), a gap before the
+                       points, extra bytes in each record, and bytes after the points (in formats
+                       with waveforms the waveform packets)
 
 and prints each name with its length. It shares nothing with the program: what it writes shows that
 the program reads the standard's files. The coordinates, classes and colours of point i are stated
@@ -19,7 +27,9 @@ import struct
 import sys
 from pathlib import Path
 
-HEADER_SIZE = 375
+# Bytes of the public header block, and formats, of each minor version.
+HEADER_SIZES = {2: 227, 3: 235, 4: 375}
+FORMATS_OF = {2: range(4), 3: range(6), 4: range(11)}
 POINTS = 5
 GAP = 7
 TAIL = b"after"
@@ -42,6 +52,7 @@ FORMATS = {
 # Point data record lengths of the standard, to check the records against.
 LENGTHS = {0: 20, 1: 28, 2: 26, 3: 34, 4: 57, 5: 63, 6: 30, 7: 36, 8: 38, 9: 59, 10: 67}
 
+GEO_KEYS = struct.pack("<4H", 1, 1, 0, 0)
 WKT = b'LOCAL_CS["example",UNIT["metre",1.0]]\0'
 
 GPS_TIME_IS_STANDARD = 1 << 0
@@ -121,63 +132,84 @@ def waveform_descriptor():
     return struct.pack("<BBIIdd", 8, 0, 4, 1000, 1.0, 0.0)
 
 
-def header(number, length, points, vlrs, points_at, evlrs, evlrs_at, waveforms_at):
-    """The public header block."""
-    extended, has_time, _, _, has_waveform = FORMATS[number]
-    encoding = CRS_IS_WKT
+def encoding_of(minor, number, waveforms_at):
+    """The global encoding."""
+    _, has_time, _, _, has_waveform = FORMATS[number]
+    encoding = CRS_IS_WKT if minor == 4 else 0
     if has_time:
         encoding |= GPS_TIME_IS_STANDARD
     if has_waveform and waveforms_at:
         encoding |= WAVEFORMS_INSIDE
-    legacy = 0 if extended else len(points)
-    data = b"LASF" + struct.pack("<HH", 1, encoding)
+    return encoding
+
+
+def header(minor, number, length, points, vlrs, points_at, evlrs=0, evlrs_at=0, waveforms_at=0):
+    """The public header block of LAS 1.minor."""
+    count = 0 if FORMATS[number][0] else len(points)
+    data = b"LASF" + struct.pack("<HH", 1, encoding_of(minor, number, waveforms_at))
     data += bytes(16)  # project id
-    data += struct.pack("<BB", 1, 4)
+    data += struct.pack("<BB", 1, minor)
     data += text("OTHER", 32) + text("assemble.py", 32)
     data += struct.pack("<HH", 1, 2024)
-    data += struct.pack("<HII", HEADER_SIZE, points_at, vlrs)
+    data += struct.pack("<HII", HEADER_SIZES[minor], points_at, vlrs)
     data += struct.pack("<BH", number, length)
-    data += struct.pack("<I5I", legacy, legacy, 0, 0, 0, 0)
+    data += struct.pack("<I5I", count, count, 0, 0, 0, 0)
     data += struct.pack("<3d", 0.01, 0.01, 0.01)
     data += struct.pack("<3d", 0.0, 0.0, 0.0)
     for axis in ("x", "y", "z"):
         values = [getattr(point, axis) * 0.01 for point in points]
         data += struct.pack("<dd", max(values), min(values))
-    data += struct.pack("<QQI", waveforms_at, evlrs_at, evlrs)
-    data += struct.pack("<Q15Q", len(points), len(points), *[0] * 14)
-    assert len(data) == HEADER_SIZE
+    if minor >= 3:
+        data += struct.pack("<Q", waveforms_at)
+    if minor >= 4:
+        data += struct.pack("<QI", evlrs_at, evlrs)
+        data += struct.pack("<Q15Q", len(points), len(points), *[0] * 14)
+    assert len(data) == HEADER_SIZES[minor]
     return data
 
 
-def plain_file(number):
+def plain_file(minor, number):
     """A file with points alone."""
     points = [Point(i) for i in range(POINTS)]
-    head = header(number, LENGTHS[number], points, 0, HEADER_SIZE, 0, 0, 0)
+    head = header(minor, number, LENGTHS[number], points, 0, HEADER_SIZES[minor])
     return head + b"".join(record(number, point, b"") for point in points)
 
 
-def full_file(number):
-    """A file with all parts."""
+def vlrs_of(minor, number):
+    """The variable length records of a file with all parts."""
+    if minor == 4:
+        vlrs = [vlr("LASF_Projection", 2112, WKT, "coordinate system")]
+        vlrs.append(vlr("LASF_Spec", 4, extra_bytes_descriptor("echo", "an example"), "extra bytes"))
+    else:
+        vlrs = [vlr("LASF_Projection", 34735, GEO_KEYS, "coordinate system")]
+        vlrs.append(vlr("LASF_Spec", 3, b"an example\0", "text"))
+    if FORMATS[number][4]:
+        vlrs.append(vlr("LASF_Spec", 100, waveform_descriptor(), "waveform packets"))
+    return vlrs
+
+
+def full_file(minor, number):
+    """A file with all parts that its version has."""
     has_waveform = FORMATS[number][4]
     points = [Point(i) for i in range(POINTS)]
-    vlrs = [vlr("LASF_Projection", 2112, WKT, "coordinate system")]
-    vlrs.append(vlr("LASF_Spec", 4, extra_bytes_descriptor("echo", "an example"), "extra bytes"))
-    if has_waveform:
-        vlrs.append(vlr("LASF_Spec", 100, waveform_descriptor(), "waveform packets"))
+    vlrs = vlrs_of(minor, number)
     before = b"".join(vlrs) + bytes(GAP)
-    points_at = HEADER_SIZE + len(before)
+    points_at = HEADER_SIZES[minor] + len(before)
     length = LENGTHS[number] + 2
     records = b"".join(record(number, point, struct.pack("<H", i)) for i, point in enumerate(points))
     assert len(records) == length * POINTS
-    # A gap stands between the points and the first extended record too.
-    evlrs_at = points_at + len(records) + GAP
-    evlrs = []
+    # A gap stands between the points and what follows them too.
+    after_at = points_at + len(records) + GAP
+    after = []
     if has_waveform:
-        evlrs.append(evlr("LASF_Spec", 65535, bytes([1, 2, 3, 4]), "waveform data packets"))
-    evlrs.append(evlr("example", 1, b"carried", "an example"))
-    waveforms_at = evlrs_at if has_waveform else 0
-    head = header(number, length, points, len(vlrs), points_at, len(evlrs), evlrs_at, waveforms_at)
-    return head + before + records + bytes(GAP) + b"".join(evlrs) + TAIL
+        after.append(evlr("LASF_Spec", 65535, bytes([1, 2, 3, 4]), "waveform data packets"))
+    waveforms_at = after_at if has_waveform else 0
+    if minor == 4:
+        after.append(evlr("example", 1, b"carried", "an example"))
+        head = header(minor, number, length, points, len(vlrs), points_at, len(after), after_at, waveforms_at)
+    else:
+        head = header(minor, number, length, points, len(vlrs), points_at, waveforms_at=waveforms_at)
+    return head + before + records + bytes(GAP) + b"".join(after) + TAIL
 
 
 def main():
@@ -185,13 +217,15 @@ def main():
         sys.exit("usage: assemble.py FOLDER")
     folder = Path(sys.argv[1])
     folder.mkdir(parents=True, exist_ok=True)
-    for number in FORMATS:
-        for name, data in (
-            (f"format{number}.las", plain_file(number)),
-            (f"format{number}-full.las", full_file(number)),
-        ):
-            (folder / name).write_bytes(data)
-            print(name, len(data))
+    for minor in HEADER_SIZES:
+        front = "" if minor == 4 else f"las1{minor}-"
+        for number in FORMATS_OF[minor]:
+            for name, data in (
+                (f"{front}format{number}.las", plain_file(minor, number)),
+                (f"{front}format{number}-full.las", full_file(minor, number)),
+            ):
+                (folder / name).write_bytes(data)
+                print(name, len(data))
 
 
 if __name__ == "__main__":

@@ -5,7 +5,8 @@
 
 writes FOLDER/damaged-0.las and on, and prints what was done to each: cut short, bytes changed,
 a field of the header set to an extreme, bytes put in or taken out. A reader of LAS files answers
-each by a picture or by the fault that it names, and by nothing else.
+each by a picture or by the fault that it names, and by nothing else. Of a file of LAS 1.2 or 1.3 the
+fields of LAS 1.4 alone are left as they are.
 """
 
 import random
@@ -15,6 +16,7 @@ from pathlib import Path
 # Fields of the public header block that say where things are: name, offset, bytes.
 FIELDS = [
     ("file signature", 0, 4),
+    ("version major", 24, 1),
     ("version minor", 25, 1),
     ("header size", 94, 2),
     ("offset to point data", 96, 4),
@@ -22,6 +24,10 @@ FIELDS = [
     ("point data record format", 104, 1),
     ("point data record length", 105, 2),
     ("legacy number of point records", 107, 4),
+]
+
+# Those of LAS 1.4 alone.
+FIELDS_OF_1_4 = [
     ("start of first EVLR", 235, 8),
     ("number of EVLRs", 243, 4),
     ("number of point records", 247, 8),
@@ -42,7 +48,8 @@ def change(data, pick):
 
 
 def set_field(data, pick):
-    name, at, size = pick.choice(FIELDS)
+    fields = FIELDS + FIELDS_OF_1_4 if data[25:26] == b"\4" else FIELDS
+    name, at, size = pick.choice(fields)
     most = (1 << (8 * size)) - 1
     here = int.from_bytes(data[at : at + size], "little")
     value = pick.choice([0, 1, most, most // 2, most // 2 + 1, max(here - 1, 0), min(here + 1, most), pick.randint(0, most)])

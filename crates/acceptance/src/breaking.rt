@@ -1,38 +1,54 @@
-use crate::plain::{ONE, plain, words};
-use crate::serving::{CLASS_6, ending, joined, kinds};
+use crate::desks::{File, Shelf, command, fill, holds};
+use crate::drawing::CLASS_6;
+use crate::plain::{ONE, plain};
+use crate::same::same;
+use crate::serving::{SERVE, command_ended, entries_are, joined, session_ended};
 use sessions::Reason;
 use std::alloc::Global;
+use std::process::Abort;
 use std::test::Fail;
-use view_base::Bytes;
-use view_commands::{Ended, Status, run};
-use view_ends::{DeskCall, MemDesk, NoBeside};
+use view_commands::{Ended, Status};
+use view_ends::{DeskCall, MemDesk};
 
 /// An edit, and a view of what it left.
-const SCRIPT: &str = "edit 0 0 0 9 9 9 all 6\n\
-                      view ortho 1 1 0 0 0 1 0 0 0 1 0 0 0 1 1 1 0 10 class all show\n";
+const SCRIPT: &[u8] =
+    b"edit 0 0 0 9 9 9 all 6\nview ortho 1 1 0 0 0 1 0 0 0 1 0 0 0 1 1 1 0 10 class all show\n";
+
+/// The line of the edit.
+const LINE: &[u8] = b"edit 0 0 0 9 9 9 all 6\n";
+
+/// What the output and the journal hold before a command.
+const BEFORE: &[u8] = b"as it was";
 
 /// The bytes of the edit's line, and of its reply.
 const EDIT: usize = 23;
 
 const EDITED: usize = 11;
 
-/// Serves the script, with one call that is to fail.
-fn broken(alloc: Global, name: &str, call: DeskCall, at: u64) -> Result<(Ended, MemDesk), Fail> {
-    let mut desk = MemDesk::new(alloc);
-    desk.put("a.las", plain(alloc, &ONE)?)?;
-    for (name, text) in [("i", SCRIPT), ("o", "as it was"), ("j", "as it was")] {
-        let mut bytes = Bytes::new(alloc);
-        bytes.append(text.as_bytes())?;
-        desk.put(name, bytes)?;
-    }
-    desk.fail(name, call, at)?;
-    let ended = run(
-        alloc,
-        &words(alloc, "serve a.las 1 j i o")?,
-        &mut desk,
-        &NoBeside,
-    );
-    Ok((ended, desk))
+/// A call on a name that is to fail, and at which place.
+type Call<'a> = (&'a str, DeskCall, u64);
+
+/// Puts the files on a desk, and plans the call that is to fail.
+fn prepare(alloc: Global, desk: &mut MemDesk, call: Call) -> Result<(), Fail> {
+    let (name, call, at) = call;
+    let survey = plain(alloc, &ONE)?;
+    let files: [File; 4] = [
+        ("a.las", survey.as_slice()),
+        ("i", SCRIPT),
+        ("o", BEFORE),
+        ("j", BEFORE),
+    ];
+    fill(alloc, desk, &files)?;
+    Ok(desk.fail(name, call, at)?)
+}
+
+/// Serves the script, with one call that is to fail, which has to leave these files.
+fn broken(rt: &impl Abort, alloc: Global, call: Call, after: &[File]) -> Result<Ended, Fail> {
+    let mut desk = MemDesk::empty(alloc);
+    prepare(alloc, &mut desk, call)?;
+    let ended = command(alloc, &mut desk, SERVE)?;
+    holds(rt, &desk, after, call.0);
+    Ok(ended)
 }
 
 /// What the output gets where nothing fails.
@@ -40,129 +56,130 @@ fn whole(alloc: Global) -> Result<Vec<u8>, Fail> {
     joined(alloc, &[b"EDITED 1 1\nPICTURE 1 14\n", CLASS_6])
 }
 
-#[test]
-fn an_opening_that_fails_runs_no_session(rt: HostRuntime) -> Result<(), Fail> {
-    let was = b"as it was".as_slice();
-    let none = b"".as_slice();
-    for (name, call, at, out, journal) in [
-        ("a.las", DeskCall::OpenIn, 1, was, was),
-        ("i", DeskCall::OpenIn, 4, was, was),
-        ("o", DeskCall::OpenOut, 5, was, was),
-        ("j", DeskCall::OpenOut, 3, none, was),
-    ] {
-        let (ended, desk) = broken(rt.alloc(), name, call, 0)?;
-        assert_eq!(rt; ended.status, Status::OpenFault { at }, "{name}");
-        assert_eq!(rt; ended.told.sessions.len(), 0, "{name}");
-        assert_eq!(rt; ended.told.history.len(), 0, "{name}");
-        assert_eq!(rt; ended.told.journal, Reason::Finished, "{name}");
-        assert_eq!(rt; desk.bytes_of("o"), Some(out), "{name}");
-        assert_eq!(rt; desk.bytes_of("j"), Some(journal), "{name}");
-    }
+/// No session may have run.
+fn never_ran(rt: &impl Abort, ended: &Ended) {
+    let told = [ended.told.sessions.len(), ended.told.history.len()];
+    same(rt, &told, &[0, 0], "sessions and entries");
+}
+
+/// Serves with an opening that fails, of the word at this place.
+fn opening_fails(
+    rt: &impl Abort,
+    alloc: Global,
+    call: Call,
+    at: u32,
+    out: &[u8],
+) -> Result<(), Fail> {
+    let ended = broken(rt, alloc, call, &[("o", out), ("j", BEFORE)])?;
+    command_ended(rt, &ended, Status::OpenFault { at }, Reason::Finished);
+    never_ran(rt, &ended);
     Ok(())
 }
 
 #[test]
+fn an_opening_that_fails_runs_no_session(rt: HostRuntime) -> Result<(), Fail> {
+    let none = b"".as_slice();
+    for (name, call, at, out) in [
+        ("a.las", DeskCall::OpenIn, 1, BEFORE),
+        ("i", DeskCall::OpenIn, 4, BEFORE),
+        ("o", DeskCall::OpenOut, 5, BEFORE),
+        ("j", DeskCall::OpenOut, 3, none),
+    ] {
+        opening_fails(&rt, rt.alloc(), (name, call, 0), at, out)?;
+    }
+    Ok(())
+}
+
+/// Serves with a read that fails at this place, which has to leave this output and this journal,
+/// and these marks.
+fn read_fails(
+    rt: &impl Abort,
+    alloc: Global,
+    at: u64,
+    out: &[u8],
+    journal: &[u8],
+    marks: &[u64],
+) -> Result<(), Fail> {
+    let call = ("i", DeskCall::Take, at);
+    let ended = broken(rt, alloc, call, &[("o", out), ("j", journal)])?;
+    let status = Status::ReadFault { at: 4 };
+    command_ended(rt, &ended, status, Reason::Finished);
+    session_ended(rt, &ended, Reason::ReadFault, at, marks);
+    Ok(())
+}
+
+/// Serves with a read that fails at each of some places, where the output gets this at most.
+fn reads_fail(rt: &impl Abort, alloc: Global, all: &[u8]) -> Result<(), Fail> {
+    let none = b"".as_slice();
+    let reply = &all[..EDITED.min(all.len())];
+    read_fails(rt, alloc, 0, none, none, &[])?;
+    read_fails(rt, alloc, EDIT as u64 - 1, none, none, &[])?;
+    read_fails(rt, alloc, EDIT as u64, reply, LINE, &[1])?;
+    read_fails(rt, alloc, EDIT as u64 + 1, reply, LINE, &[1])?;
+    read_fails(rt, alloc, SCRIPT.len() as u64, all, LINE, &[1, 1])
+}
+
+#[test]
 fn a_read_that_fails_ends_a_session_at_the_lines_before(rt: HostRuntime) -> Result<(), Fail> {
-    for at in [0, EDIT - 1, EDIT, EDIT + 1, SCRIPT.len()] {
-        let (ended, desk) = broken(rt.alloc(), "i", DeskCall::Take, at as u64)?;
-        assert_eq!(rt; ended.status, Status::ReadFault { at: 4 }, "at {at}");
-        let (reason, taken, _) = ending(rt.alloc(), &ended)?;
-        assert_eq!(rt; reason, Reason::ReadFault, "at {at}");
-        assert_eq!(rt; taken, at as u64);
-        let mut got = whole(rt.alloc())?;
-        got.truncate(if at < EDIT {
-            0
-        } else if at < SCRIPT.len() {
-            EDITED
-        } else {
-            got.len()
-        });
-        assert_eq!(rt; desk.bytes_of("o"), Some(got.as_slice()), "at {at}");
-        let journal = if at < EDIT {
-            ""
-        } else {
-            "edit 0 0 0 9 9 9 all 6\n"
-        };
-        assert_eq!(rt; desk.bytes_of("j"), Some(journal.as_bytes()), "at {at}");
+    reads_fail(&rt, rt.alloc(), &whole(rt.alloc())?)
+}
+
+/// Serves with a write that fails once the output got this front.
+fn write_fails(rt: &impl Abort, alloc: Global, front: &[u8]) -> Result<(), Fail> {
+    let at = front.len();
+    let call = ("o", DeskCall::Give, at as u64);
+    let ended = broken(rt, alloc, call, &[("o", front), ("j", LINE)])?;
+    let status = Status::WriteFault { at: 5 };
+    command_ended(rt, &ended, status, Reason::Finished);
+    let (marks, entries) = if at < EDITED {
+        ([1].as_slice(), b"E".as_slice())
+    } else {
+        ([1, 1].as_slice(), b"EPU".as_slice())
+    };
+    session_ended(rt, &ended, Reason::WriteFault, SCRIPT.len() as u64, marks);
+    entries_are(rt, &ended.told.history, entries);
+    Ok(())
+}
+
+/// Serves with a write that fails at each place of the output.
+fn writes_fail(rt: &impl Abort, alloc: Global, all: &[u8]) -> Result<(), Fail> {
+    for at in 0..all.len() {
+        write_fails(rt, alloc, &all[..at])?;
     }
     Ok(())
 }
 
 #[test]
 fn a_write_that_fails_ends_a_session_at_that_byte(rt: HostRuntime) -> Result<(), Fail> {
-    let all = whole(rt.alloc())?;
-    for at in 0..all.len() {
-        let (ended, desk) = broken(rt.alloc(), "o", DeskCall::Give, at as u64)?;
-        assert_eq!(rt; ended.status, Status::WriteFault { at: 5 }, "at {at}");
-        let (reason, _, made_under) = ending(rt.alloc(), &ended)?;
-        assert_eq!(rt; reason, Reason::WriteFault, "at {at}");
-        assert_eq!(rt; desk.bytes_of("o"), Some(&all[..at]), "at {at}");
-        assert_eq!(rt;
-            desk.bytes_of("j"),
-            Some(b"edit 0 0 0 9 9 9 all 6\n".as_slice()),
-            "at {at}"
-        );
-        let made = kinds(rt.alloc(), &ended.told.history)?;
-        let (marks, entries) = if at < EDITED {
-            ([1].as_slice(), b"E".as_slice())
-        } else {
-            ([1, 1].as_slice(), b"EPU".as_slice())
-        };
-        assert_eq!(rt; made_under.as_slice(), marks, "at {at}");
-        assert_eq!(rt; made.as_slice(), entries, "at {at}");
-    }
+    writes_fail(&rt, rt.alloc(), &whole(rt.alloc())?)
+}
+
+/// Serves with a call that fails after the session: the status' place, the journal's reason, and
+/// the other file have to be these.
+fn late(
+    rt: &impl Abort,
+    alloc: Global,
+    call: Call,
+    at: u32,
+    journal: Reason,
+    other: File,
+) -> Result<(), Fail> {
+    let ended = broken(rt, alloc, call, &[other])?;
+    command_ended(rt, &ended, Status::WriteFault { at }, journal);
     Ok(())
 }
 
-/// How the session ends whose output isn't kept, or whose journal isn't written: the status, the
-/// journal's reason, and the bytes of the other file.
-fn late(
-    alloc: Global,
-    name: &str,
-    call: DeskCall,
-    at: u64,
-) -> Result<(Status, Reason, Vec<u8>), Fail> {
-    let (ended, desk) = broken(alloc, name, call, at)?;
-    let other = if name == "j" { "o" } else { "j" };
-    let bytes = desk.bytes_of(other).unwrap_or(b"none").to_vec(alloc)?;
-    Ok((ended.status, ended.told.journal, bytes))
+/// Serves with each call that can fail after the session, where the output gets this.
+fn late_ones(rt: &impl Abort, alloc: Global, all: &[u8]) -> Result<(), Fail> {
+    let done = Reason::Finished;
+    late(rt, alloc, ("o", DeskCall::Keep, 0), 5, done, ("j", LINE))?;
+    let failed = Reason::WriteFault;
+    late(rt, alloc, ("j", DeskCall::Keep, 0), 3, failed, ("o", all))?;
+    late(rt, alloc, ("j", DeskCall::Give, 0), 3, failed, ("o", all))?;
+    late(rt, alloc, ("j", DeskCall::Give, 5), 3, failed, ("o", all))
 }
 
 #[test]
 fn a_keeping_or_a_journal_that_fails_comes_after_the_session(rt: HostRuntime) -> Result<(), Fail> {
-    let all = whole(rt.alloc())?;
-    let edit = b"edit 0 0 0 9 9 9 all 6\n".as_slice();
-    for (name, call, at, place, reason, want) in [
-        ("o", DeskCall::Keep, 0, 5, Reason::Finished, edit),
-        (
-            "j",
-            DeskCall::Keep,
-            0,
-            3,
-            Reason::WriteFault,
-            all.as_slice(),
-        ),
-        (
-            "j",
-            DeskCall::Give,
-            0,
-            3,
-            Reason::WriteFault,
-            all.as_slice(),
-        ),
-        (
-            "j",
-            DeskCall::Give,
-            5,
-            3,
-            Reason::WriteFault,
-            all.as_slice(),
-        ),
-    ] {
-        let (status, journal, other) = late(rt.alloc(), name, call, at)?;
-        assert_eq!(rt; status, Status::WriteFault { at: place }, "{name}");
-        assert_eq!(rt; journal, reason, "{name}");
-        assert_eq!(rt; other.as_slice(), want, "{name}");
-    }
-    Ok(())
+    late_ones(&rt, rt.alloc(), &whole(rt.alloc())?)
 }

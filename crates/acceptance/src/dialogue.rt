@@ -1,12 +1,16 @@
-ghost use Rattle.std.specs.Prelude.{◌≤◌, None};
+ghost use Rattle.std.specs.Prelude.{◌≡◌, ◌≤◌, [], None, IfOk};
 
 use crate::plain::{ONE, plain};
+use crate::same::same;
 use las_survey::load;
 use plain_picture::Scene;
-use sessions::{History, Reason, serve_alone};
+use sessions::{Reason, SessionEnd, serve_alone};
+use std::alloc::Global;
 use std::cell::Cell;
+use std::process::Abort;
 use std::sync::Arc;
 use std::test::Fail;
+use version_store::History;
 use view_ends::{EndFault, Failed, NoBeside, Sink, Source, StillSource};
 
 /// Two lines of a user who waits for the answer to the first before the second is written.
@@ -63,33 +67,46 @@ impl<'a> Sink for Hearing<'a> {
     }
 }
 
-#[test]
-fn a_line_is_answered_before_the_next_is_asked_for(rt: HostRuntime) -> Result<(), Fail> {
-    let mut file = StillSource::new(plain(rt.alloc(), &ONE)?);
-    let survey = load(rt.alloc(), &mut file).expect(&rt, "a survey");
-    let scene = Scene {
-        survey: Arc::new(rt.alloc(), survey)?,
+/// A scene of one point, for one worker.
+fn scene(rt: &impl Abort, alloc: Global) -> Result<Scene, Fail>
+    ensures { IfOk result (λ scene. (1 ≤ scene.workers) × (scene.workers ≤ 64)) }
+{
+    let mut file = StillSource::new(plain(alloc, &ONE)?);
+    let survey = load(alloc, &mut file).expect(rt, "a survey");
+    Ok(Scene {
+        survey: Arc::new(alloc, survey)?,
         workers: 1,
-    };
-    let heard = Cell::new(0);
+    })
+}
+
+/// Serves the user over a scene, and answers how that ended.
+fn serves(alloc: Global, scene: &Scene, history: &mut History, heard: &Cell<u64>) -> SessionEnd
+    requires workers { (1 ≤ scene.now.workers) × (scene.now.workers ≤ 64) }
+    requires empty { history.old.items ≡ [] }
+{
     let mut source = Asking {
-        heard: &heard,
+        heard,
         at: 0,
         faults: 0,
     };
-    let mut sink = Hearing { heard: &heard };
+    let mut sink = Hearing { heard };
+    serve_alone(alloc, scene, history, &mut source, &mut sink, &NoBeside)
+}
+
+/// A session has to have ended well, with two edits that were heard of in 22 bytes.
+fn made_two_edits(rt: &impl Abort, end: &SessionEnd, history: &History, heard: u64) {
+    same(rt, &end.reason, &Reason::Finished, "the session");
+    same(rt, &end.marks.as_slice(), &[1, 2].as_slice(), "marks");
+    same(rt, &history.len(), &2, "entries");
+    same(rt, &heard, &22, "heard");
+}
+
+#[test]
+fn a_line_is_answered_before_the_next_is_asked_for(rt: HostRuntime) -> Result<(), Fail> {
+    let heard = Cell::new(0);
+    let scene = scene(&rt, rt.alloc())?;
     let mut history = History::new(rt.alloc());
-    let end = serve_alone(
-        rt.alloc(),
-        &scene,
-        &mut history,
-        &mut source,
-        &mut sink,
-        &NoBeside,
-    );
-    assert_eq!(rt; end.reason, Reason::Finished);
-    assert_eq!(rt; end.marks.as_slice(), [1, 2].as_slice());
-    assert_eq!(rt; history.len(), 2);
-    assert_eq!(rt; heard.get(), 22);
+    let end = serves(rt.alloc(), &scene, &mut history, &heard);
+    made_two_edits(&rt, &end, &history, heard.get());
     Ok(())
 }

@@ -1,7 +1,10 @@
 ghost use Rattle.std.specs.Prelude.{ℕ, List, Option};
 
 use crate::plain::{ONE, plain};
-use las_survey::load;
+use crate::same::same;
+use las_survey::{Survey, load};
+use std::alloc::Global;
+use std::process::Abort;
 use std::test::Fail;
 use view_ends::{EndFault, Failed, Sink, Source, StillSink, StillSource, give_all};
 
@@ -43,16 +46,37 @@ impl Sink for DripSink {
     }
 }
 
+/// A survey that comes from this source has to have these bytes and one record.
+fn comes_whole(
+    rt: &impl Abort,
+    alloc: Global,
+    source: &mut DripSource,
+    bytes: &[u8],
+) -> Result<(), Fail> {
+    let survey = load(alloc, source).expect(rt, "a survey");
+    is_whole(rt, &survey, bytes);
+    Ok(())
+}
+
+/// The survey has to have these bytes and one record.
+fn is_whole(rt: &impl Abort, survey: &Survey, bytes: &[u8]) {
+    same(rt, &survey.bytes(), &bytes, "bytes");
+    same(rt, &survey.records(), &1, "records");
+}
+
 #[test]
 fn a_survey_that_comes_byte_by_byte_is_the_same(rt: HostRuntime) -> Result<(), Fail> {
     let bytes = plain(rt.alloc(), &ONE)?;
     let mut source = DripSource {
         inner: StillSource::new(plain(rt.alloc(), &ONE)?),
     };
-    let survey = load(rt.alloc(), &mut source).expect(&rt, "a survey");
-    assert_eq!(rt; survey.bytes(), bytes.as_slice());
-    assert_eq!(rt; survey.records(), 1);
-    Ok(())
+    comes_whole(&rt, rt.alloc(), &mut source, bytes.as_slice())
+}
+
+/// The sink has to get the piece whole.
+fn goes_whole(rt: &impl Abort, sink: &mut DripSink, piece: &[u8]) {
+    same(rt, &give_all(sink, piece), &Ok(()), "given");
+    same(rt, &sink.inner.got(), &piece, "got");
 }
 
 #[test]
@@ -61,7 +85,6 @@ fn a_piece_that_goes_byte_by_byte_is_given_whole(rt: HostRuntime) -> Result<(), 
     let mut sink = DripSink {
         inner: StillSink::new(rt.alloc()),
     };
-    assert_eq!(rt; give_all(&mut sink, bytes.as_slice()), Ok(()));
-    assert_eq!(rt; sink.inner.got(), bytes.as_slice());
+    goes_whole(&rt, &mut sink, bytes.as_slice());
     Ok(())
 }

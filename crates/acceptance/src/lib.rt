@@ -3,7 +3,11 @@
 #![tactic(auto)]
 
 #[cfg(test)]
+mod ample;
+#[cfg(test)]
 mod breaking;
+#[cfg(test)]
+mod desks;
 #[cfg(test)]
 mod dialogue;
 #[cfg(test)]
@@ -13,11 +17,15 @@ mod dripping;
 #[cfg(test)]
 mod failing;
 #[cfg(test)]
+mod leaving;
+#[cfg(test)]
 mod parts;
 #[cfg(test)]
 mod plain;
 #[cfg(test)]
 mod refusals;
+#[cfg(test)]
+mod same;
 #[cfg(test)]
 mod serving;
 #[cfg(test)]

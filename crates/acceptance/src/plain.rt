@@ -21,46 +21,68 @@ pub(crate) fn plain_of(
     length: u16,
     records: &[Record],
 ) -> Result<Bytes, OutOfMemory> {
-    let mut bytes = header(alloc, 375, 0, format, length, records.len())?;
-    for (x, y, z, class) in records {
-        append_record(&mut bytes, format, length, [*x, *y, *z], *class)?;
-    }
+    let mut bytes = Bytes::new(alloc);
+    append_header(&mut bytes, 375, 0, format, length, records.len())?;
+    append_records(&mut bytes, format, length, records)?;
     Ok(bytes)
 }
 
 /// The 435 bytes of a survey without points and with one variable length record of 55 bytes, after
 /// which five bytes stand before the place of the points.
 pub(crate) fn gapped(alloc: Global) -> Result<Bytes, OutOfMemory> {
-    let mut bytes = header(alloc, 435, 1, 0, 20, 0)?;
-    bytes.append(&[0; 20])?;
-    bytes.append(&1u16.to_le_bytes())?;
-    bytes.append(&[0; 38])?;
+    let mut bytes = Bytes::new(alloc);
+    append_header(&mut bytes, 435, 1, 0, 20, 0)?;
+    append_all(&mut bytes, &[&[0; 20], &1u16.to_le_bytes(), &[0; 38]])?;
     Ok(bytes)
 }
 
-/// A public header block of 375 bytes.
-fn header(
-    alloc: Global,
+/// Appends pieces, one after another.
+pub(crate) fn append_all(bytes: &mut Bytes, pieces: &[&[u8]]) -> Result<(), OutOfMemory> {
+    for piece in pieces {
+        bytes.append(piece)?;
+    }
+    Ok(())
+}
+
+/// Appends a public header block of 375 bytes.
+fn append_header(
+    bytes: &mut Bytes,
     points_at: u32,
     vlrs: u32,
     format: u8,
     length: u16,
     records: usize,
-) -> Result<Bytes, OutOfMemory> {
-    let mut bytes = Bytes::new(alloc);
-    bytes.append(b"LASF")?;
-    bytes.append(&[0; 20])?;
-    bytes.append(&[1, 4])?;
-    bytes.append(&[0; 68])?;
-    bytes.append(&375u16.to_le_bytes())?;
-    bytes.append(&points_at.to_le_bytes())?;
-    bytes.append(&vlrs.to_le_bytes())?;
-    bytes.append(&[format])?;
-    bytes.append(&length.to_le_bytes())?;
-    bytes.append(&[0; 140])?;
-    bytes.append(&(records as u64).to_le_bytes())?;
-    bytes.append(&[0; 120])?;
-    Ok(bytes)
+) -> Result<(), OutOfMemory> {
+    append_all(
+        bytes,
+        &[
+            b"LASF",
+            &[0; 20],
+            &[1, 4],
+            &[0; 68],
+            &375u16.to_le_bytes(),
+            &points_at.to_le_bytes(),
+            &vlrs.to_le_bytes(),
+            &[format],
+            &length.to_le_bytes(),
+            &[0; 140],
+            &(records as u64).to_le_bytes(),
+            &[0; 120],
+        ],
+    )
+}
+
+/// Appends records.
+pub(crate) fn append_records(
+    bytes: &mut Bytes,
+    format: u8,
+    length: u16,
+    records: &[Record],
+) -> Result<(), OutOfMemory> {
+    for record in records {
+        append_record(bytes, format, length, *record)?;
+    }
+    Ok(())
 }
 
 /// Appends one record, its class byte at place 15 in the formats 0 to 5 and at 16 in the others.
@@ -68,17 +90,32 @@ fn append_record(
     bytes: &mut Bytes,
     format: u8,
     length: u16,
-    place: [i32; 3],
-    class: u8,
+    record: Record,
 ) -> Result<(), OutOfMemory> {
-    for coordinate in place {
-        bytes.append(&coordinate.to_le_bytes())?;
-    }
+    let (x, y, z, class) = record;
+    append_all(
+        bytes,
+        &[&x.to_le_bytes(), &y.to_le_bytes(), &z.to_le_bytes()],
+    )?;
     let class_at = if format <= 5 { 15 } else { 16 };
     for at in 12..length {
         bytes.append(&[if at == class_at { class } else { 0 }])?;
     }
     Ok(())
+}
+
+/// These bytes, with another one at this place.
+pub(crate) fn patched(
+    alloc: Global,
+    bytes: &[u8],
+    at: usize,
+    byte: u8,
+) -> Result<Bytes, OutOfMemory> {
+    let mut patched = Bytes::new(alloc);
+    let front = bytes.get(..at).unwrap_or(&[]);
+    let end = bytes.get(at.saturating_add(1)..).unwrap_or(&[]);
+    append_all(&mut patched, &[front, &[byte], end])?;
+    Ok(patched)
 }
 
 /// The words of a line, cut at its blanks.

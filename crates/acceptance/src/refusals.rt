@@ -1,13 +1,74 @@
-use crate::plain::{ONE, plain, words};
+use crate::desks::{Shelf, command, fill};
+use crate::plain::{ONE, plain};
+use crate::same::same;
 use int_camera::CameraLimit;
 use las_survey::{HeaderFault, SurveyFault};
+use std::alloc::Global;
+use std::process::Abort;
 use std::test::Fail;
-use view_base::Bytes;
-use view_commands::{Status, code, run};
-use view_ends::{MemDesk, NoBeside};
+use view_commands::{Status, code};
+use view_ends::MemDesk;
 
-#[test]
-fn each_refusal_of_words_names_what_is_wrong(rt: HostRuntime) -> Result<(), Fail> {
+/// A command has to have ended so, with this code, and with a picture exactly where all was done.
+fn has_ended(rt: &impl Abort, desk: &MemDesk, line: &str, got: Status, status: Status, exit: u8) {
+    same(rt, &got, &status, line);
+    same(rt, &code(&got), &exit, line);
+    let drawn = desk.bytes_of("a.ppm").is_some();
+    same(rt, &drawn, &(status == Status::Done), line);
+}
+
+/// Runs a line over a desk with this survey, the survey without its last byte and an empty file.
+fn answers(
+    rt: &impl Abort,
+    alloc: Global,
+    survey: &[u8],
+    line: &str,
+    status: Status,
+    exit: u8,
+) -> Result<(), Fail> {
+    let mut desk = MemDesk::empty(alloc);
+    let short = survey.get(..394).unwrap_or(survey);
+    let files = [
+        ("a.las", survey),
+        ("short.las", short),
+        ("empty.las", [].as_slice()),
+    ];
+    fill(alloc, &mut desk, &files)?;
+    let got = command(alloc, &mut desk, line)?.status;
+    has_ended(rt, &desk, line, got, status, exit);
+    Ok(())
+}
+
+/// Refusals of words that do not fit.
+fn refuses_words(rt: &impl Abort, alloc: Global, survey: &[u8]) -> Result<(), Fail> {
+    for (line, at) in [
+        ("", 0),
+        ("draw a.las", 2),
+        ("draw a.las a.ppm 65", 3),
+        ("draw a.las a.las 65", 2),
+        ("paint a.las a.ppm", 0),
+        ("info a.las", 2),
+        ("info a.las a.las", 2),
+        ("serve a.las 1 j", 4),
+        ("serve a.las 1 j i", 5),
+        ("serve a.las 1 a.las i o", 3),
+        ("serve a.las 1 j i i", 5),
+        (
+            "draw a.las a.las 1 ortho 1 1 0 0 0 1 0 0 0 1 0 0 0 1 1 1 0 10 class all show",
+            2,
+        ),
+        (
+            "draw a.las a.ppm 1 ortho 1 +1 0 0 0 1 0 0 0 1 0 0 0 1 1 1 0 10 class all show",
+            6,
+        ),
+    ] {
+        answers(rt, alloc, survey, line, Status::Words { at }, 2)?;
+    }
+    Ok(())
+}
+
+/// Refusals of cameras out of range, and of words that fit and ask for what is not built.
+fn refuses_views(rt: &impl Abort, alloc: Global, survey: &[u8]) -> Result<(), Fail> {
     let wide = CameraLimit {
         place: 1,
         value: 4097,
@@ -16,27 +77,9 @@ fn each_refusal_of_words_names_what_is_wrong(rt: HostRuntime) -> Result<(), Fail
         place: 19,
         value: 16777216,
     };
-    let table = [
-        ("", Status::Words { at: 0 }, 2),
-        ("draw a.las", Status::Words { at: 2 }, 2),
-        ("draw a.las a.ppm 65", Status::Words { at: 3 }, 2),
-        ("draw a.las a.las 65", Status::Words { at: 2 }, 2),
-        ("paint a.las a.ppm", Status::Words { at: 0 }, 2),
-        ("info a.las", Status::Words { at: 2 }, 2),
-        ("info a.las a.las", Status::Words { at: 2 }, 2),
-        ("info b.las a.txt", Status::OpenFault { at: 1 }, 5),
+    for (line, status, exit) in [
         ("trial 5 100 2 t", Status::NotYet, 12),
         ("serve a.las 1 j i o k p", Status::NotYet, 12),
-        (
-            "draw a.las a.las 1 ortho 1 1 0 0 0 1 0 0 0 1 0 0 0 1 1 1 0 10 class all show",
-            Status::Words { at: 2 },
-            2,
-        ),
-        (
-            "draw a.las a.ppm 1 ortho 1 +1 0 0 0 1 0 0 0 1 0 0 0 1 1 1 0 10 class all show",
-            Status::Words { at: 6 },
-            2,
-        ),
         (
             "draw a.las a.ppm 1 persp 1 1 0 0 0 1 0 0 0 1 0 0 0 1 1 1 1 10 class all show",
             Status::NotYet,
@@ -57,6 +100,21 @@ fn each_refusal_of_words_names_what_is_wrong(rt: HostRuntime) -> Result<(), Fail
             Status::Limit(many),
             3,
         ),
+    ] {
+        answers(rt, alloc, survey, line, status, exit)?;
+    }
+    Ok(())
+}
+
+/// Refusals of surveys, and a line that is answered.
+fn refuses_surveys(rt: &impl Abort, alloc: Global, survey: &[u8]) -> Result<(), Fail> {
+    let empty = SurveyFault::Header(HeaderFault::TooShort { have: 0 });
+    let short = SurveyFault::Points {
+        need: 395,
+        have: 394,
+    };
+    for (line, status, exit) in [
+        ("info b.las a.txt", Status::OpenFault { at: 1 }, 5),
         (
             "draw b.las a.ppm 1 ortho 1 1 0 0 0 1 0 0 0 1 0 0 0 1 1 1 0 10 class all show",
             Status::OpenFault { at: 1 },
@@ -64,15 +122,12 @@ fn each_refusal_of_words_names_what_is_wrong(rt: HostRuntime) -> Result<(), Fail
         ),
         (
             "draw empty.las a.ppm 1 ortho 1 1 0 0 0 1 0 0 0 1 0 0 0 1 1 1 0 10 class all show",
-            Status::Survey(SurveyFault::Header(HeaderFault::TooShort { have: 0 })),
+            Status::Survey(empty),
             8,
         ),
         (
             "draw short.las a.ppm 1 ortho 1 1 0 0 0 1 0 0 0 1 0 0 0 1 1 1 0 10 class all show",
-            Status::Survey(SurveyFault::Points {
-                need: 395,
-                have: 394,
-            }),
+            Status::Survey(short),
             8,
         ),
         (
@@ -80,25 +135,25 @@ fn each_refusal_of_words_names_what_is_wrong(rt: HostRuntime) -> Result<(), Fail
             Status::Done,
             0,
         ),
-    ];
-    for (line, status, exit) in table {
-        let mut desk = MemDesk::new(rt.alloc());
-        desk.put("a.las", plain(rt.alloc(), &ONE)?)?;
-        let mut short = plain(rt.alloc(), &ONE)?;
-        let bytes = short.len();
-        assert_eq!(rt; bytes, 395);
-        short.cut(394);
-        desk.put("short.las", short)?;
-        desk.put("empty.las", Bytes::new(rt.alloc()))?;
-        let ended = run(rt.alloc(), &words(rt.alloc(), line)?, &mut desk, &NoBeside);
-        assert_eq!(rt; ended.status, status, "{line}");
-        assert_eq!(rt; code(&ended.status), exit, "{line}");
-        assert_eq!(rt;
-            desk.bytes_of("a.ppm").is_some(),
-            status == Status::Done,
-            "{line}"
-        );
+    ] {
+        answers(rt, alloc, survey, line, status, exit)?;
     }
+    Ok(())
+}
+
+#[test]
+fn each_refusal_of_words_names_what_is_wrong(rt: HostRuntime) -> Result<(), Fail> {
+    let survey = plain(rt.alloc(), &ONE)?;
+    same(&rt, &survey.len(), &395, "bytes");
+    refuses_words(&rt, rt.alloc(), survey.as_slice())?;
+    refuses_views(&rt, rt.alloc(), survey.as_slice())?;
+    refuses_surveys(&rt, rt.alloc(), survey.as_slice())
+}
+
+/// A status has to have this text.
+fn has_text(rt: &impl Abort, alloc: Global, status: Status, text: &str) -> Result<(), Fail> {
+    let told = status.to_string(alloc)?;
+    same(rt, &told.as_str(), &text, "the text");
     Ok(())
 }
 
@@ -133,7 +188,7 @@ fn each_status_has_its_text(rt: HostRuntime) -> Result<(), Fail> {
         (Status::Memory, "out of memory"),
         (Status::NotYet, "not built yet"),
     ] {
-        assert_eq!(rt; status.to_string(rt.alloc())?.as_str(), text);
+        has_text(&rt, rt.alloc(), status, text)?;
     }
     Ok(())
 }

@@ -1,114 +1,75 @@
+use crate::desks::{Shelf, command, ends, fill, holds};
+use crate::drawing::{CLASS_2, CLASS_6};
 use crate::parts::parts;
-use crate::plain::{ONE, Record, plain, words};
-use sessions::{Entry, History, Reason, What};
+use crate::plain::{ONE, Record, plain};
+use crate::same::same;
+use sessions::{Reason, SessionEnd};
 use std::alloc::Global;
+use std::process::Abort;
 use std::test::Fail;
-use view_base::Bytes;
-use view_commands::{Ended, Status, run};
-use view_ends::{NoBeside, StillDesk};
+use version_store::{Entry, History, What};
+use view_commands::{Ended, Status};
+use view_ends::StillDesk;
 
-/// A view of one pixel at the origin that looks along Z, by class.
-pub(crate) const VIEW: &str = "view ortho 1 1 0 0 0 1 0 0 0 1 0 0 0 1 1 1 0 10 class all show\n";
+/// The command of one session.
+pub(crate) const SERVE: &str = "serve a.las 1 j i o";
 
-/// The picture of one pixel in class 2, and in class 6.
-pub(crate) const CLASS_2: &[u8] = b"P6\n1 1\n255\n\xC6\x86\xFA";
-
-pub(crate) const CLASS_6: &[u8] = b"P6\n1 1\n255\n\xD2\x92\x6E";
-
-/// How a session ends, what its output got, and the journal.
-pub(crate) type Served = (Ended, Vec<u8>, Vec<u8>);
-
-/// Serves a script over a survey.
-pub(crate) fn served(alloc: Global, survey: Bytes, script: &[u8]) -> Result<Served, Fail> {
-    let mut desk = StillDesk::new(alloc);
-    desk.put("a.las", survey)?;
-    let mut input = Bytes::new(alloc);
-    input.append(script)?;
-    desk.put("i", input)?;
-    let ended = run(
-        alloc,
-        &words(alloc, "serve a.las 1 j i o")?,
-        &mut desk,
-        &NoBeside,
-    );
-    let replies = desk.bytes_of("o").unwrap_or(b"none").to_vec(alloc)?;
-    let journal = desk.bytes_of("j").unwrap_or(b"none").to_vec(alloc)?;
-    Ok((ended, replies, journal))
+/// Serves a script over a survey, which has to end so with these replies and this journal, and to
+/// leave the survey and the script.
+pub(crate) fn serves(
+    rt: &impl Abort,
+    alloc: Global,
+    survey: &[u8],
+    script: &[u8],
+    replies: &[u8],
+    journal: &[u8],
+) -> Result<Ended, Fail> {
+    let mut desk = StillDesk::empty(alloc);
+    fill(alloc, &mut desk, &[("a.las", survey), ("i", script)])?;
+    let ended = command(alloc, &mut desk, SERVE)?;
+    holds(rt, &desk, &[("o", replies), ("j", journal)], SERVE);
+    holds(rt, &desk, &[("a.las", survey), ("i", script)], SERVE);
+    Ok(ended)
 }
 
-/// Why the one session ended, how many bytes were taken, and its marks.
-pub(crate) fn ending(alloc: Global, ended: &Ended) -> Result<(Reason, u64, Vec<u64>), Fail> {
-    match ended.told.sessions.as_slice().first() {
-        Some(end) => Ok((end.reason, end.taken, end.marks.as_slice().to_vec(alloc)?)),
-        None => Ok((Reason::Memory, 0, Vec::new(alloc))),
+/// The one session has to have ended for this reason, with so many bytes taken and these marks.
+pub(crate) fn session_ended(
+    rt: &impl Abort,
+    ended: &Ended,
+    reason: Reason,
+    taken: u64,
+    marks: &[u64],
+) {
+    same(rt, &ended.told.sessions.len(), &1, "sessions");
+    if let Some(end) = ended.told.sessions.as_slice().first() {
+        is_end(rt, end, reason, taken, marks);
     }
 }
 
-/// The pieces of a text, one after another.
-pub(crate) fn joined(alloc: Global, pieces: &[&[u8]]) -> Result<Vec<u8>, Fail> {
-    let mut text = Vec::new(alloc);
-    for piece in pieces {
-        text.extend_from_slice(piece)?;
-    }
-    Ok(text)
+/// A session has to have ended for this reason, with so many bytes taken and these marks.
+fn is_end(rt: &impl Abort, end: &SessionEnd, reason: Reason, taken: u64, marks: &[u64]) {
+    same(rt, &end.reason, &reason, "the session");
+    same(rt, &end.taken, &taken, "taken");
+    same(rt, &end.marks.as_slice(), &marks, "marks");
 }
 
-/// The survey of one point at (0, 0, 5) with this class byte, as a file.
-pub(crate) fn one(alloc: Global, class: u8) -> Result<Vec<u8>, Fail> {
-    let survey = plain(alloc, &[(0, 0, 5, class)])?;
-    Ok(survey.as_slice().to_vec(alloc)?)
+/// The command has to have ended with this status, and the journal for this reason.
+pub(crate) fn command_ended(rt: &impl Abort, ended: &Ended, status: Status, journal: Reason) {
+    same(rt, &ended.status, &status, "the command");
+    same(rt, &ended.told.journal, &journal, "the journal");
 }
 
-#[test]
-fn a_session_of_views_edits_and_a_save(rt: HostRuntime) -> Result<(), Fail> {
-    let first = b"edit 0 0 0 9 9 9 2 6\n".as_slice();
-    let second = b"edit 0 0 0 9 9 4 all 9\n".as_slice();
-    let view = VIEW.as_bytes();
-    let script = joined(rt.alloc(), &[view, first, view, second, b"save\n"])?;
-    let (ended, replies, journal) = served(rt.alloc(), plain(rt.alloc(), &ONE)?, &script)?;
-    let file = one(rt.alloc(), 6)?;
-    let wanted = joined(
-        rt.alloc(),
-        &[
-            b"PICTURE 0 14\n",
-            CLASS_2,
-            b"EDITED 1 1\nPICTURE 1 14\n",
-            CLASS_6,
-            b"EDITED 2 0\nFILE 2 395\n",
-            &file,
-        ],
-    )?;
-    assert_eq!(rt; ended.status, Status::Done);
-    assert_eq!(rt; replies.as_slice(), wanted.as_slice());
-    assert_eq!(rt;
-        journal.as_slice(),
-        joined(rt.alloc(), &[first, second])?.as_slice()
-    );
-    assert_eq!(rt; ended.told.journal, Reason::Finished);
-    assert_eq!(rt; ended.told.sessions.len(), 1);
-    let (reason, taken, marks) = ending(rt.alloc(), &ended)?;
-    assert_eq!(rt; reason, Reason::Finished);
-    assert_eq!(rt; taken, script.len() as u64);
-    assert_eq!(rt; marks.as_slice(), [0, 1, 1, 2, 2].as_slice());
-    assert_eq!(rt;
-        kinds(rt.alloc(), &ended.told.history)?.as_slice(),
-        b"PUEPUEPU".as_slice()
-    );
-    Ok(())
-}
-
-/// A letter for each entry by session 1 of a history: `E` an edit, `P` a pin, `U` a pin of the
-/// newest version given back, and `?` any other.
-pub(crate) fn kinds(alloc: Global, history: &History) -> Result<Vec<u8>, Fail> {
-    let mut letters = Vec::new(alloc);
+/// The entries of a history have to be these, all by session 1: `E` an edit, `P` a pin, `U` a pin
+/// of the newest version given back, and `?` any other.
+pub(crate) fn entries_are(rt: &impl Abort, history: &History, letters: &[u8]) {
+    same(rt, &history.len(), &letters.len(), "entries");
     let mut newest = 0u64;
-    for entry in history.as_slice() {
-        letters.push(letter(entry, newest))?;
+    for (entry, wanted) in history.as_slice().iter().zip(letters) {
+        same(rt, &letter(entry, newest), wanted, "an entry");
         if let What::Publish(_) = entry.what {
             newest = newest.wrapping_add(1);
         }
     }
-    Ok(letters)
 }
 
 /// The letter of one entry, where this is the newest version.
@@ -123,91 +84,167 @@ fn letter(entry: &Entry, newest: u64) -> u8 {
     }
 }
 
-#[test]
-fn replies_and_journals_worked_by_hand(rt: HostRuntime) -> Result<(), Fail> {
-    let flagged: [Record; 1] = [(0, 0, 5, 0xE2)];
-    let changed = one(rt.alloc(), 0xE6)?;
-    let flags = joined(rt.alloc(), &[b"EDITED 1 1\nFILE 1 395\n", &changed])?;
-    let as_read = one(rt.alloc(), 2)?;
-    let lines = joined(rt.alloc(), &[b"FILE 0 395\n", &as_read, b"EDITED 1 1\n"])?;
-    let wide = b"view ortho 4097 1 0 0 0 1 0 0 0 1 0 0 0 1 1 1 0 10 class all show\n";
-    let hidden = b"view ortho 1 1 0 0 0 1 0 0 0 1 0 0 0 1 1 1 0 10 class all hide\n";
-    let table: [(&str, &[Record], &[u8], &[u8], &[u8]); 8] = [
-        (
-            "flags stay",
-            &flagged,
-            b"edit 0 0 0 10 10 10 2 6\nsave\n",
-            &flags,
-            b"edit 0 0 0 10 10 10 2 6\n",
-        ),
-        (
-            "the journal is canonical",
-            &ONE,
-            b"edit 007 -0 0 9 9 9 3,1-2,2 06\n",
-            b"EDITED 1 0\n",
-            b"edit 7 0 0 9 9 9 1-3 6\n",
-        ),
-        (
-            "a class for which format 0 has no room",
-            &ONE,
-            b"edit 0 0 0 9 9 9 all 32\n",
-            b"REFUSED 4\n",
-            b"",
-        ),
-        (
-            "one CR is dropped, blanks are no line, and the last needs no LF",
-            &ONE,
-            b"save\r\n\n \t\n\r\nedit 0 0 0 9 9 9 all 6",
-            &lines,
-            b"edit 0 0 0 9 9 9 all 6\n",
-        ),
-        (
-            "the second CR is a word",
-            &ONE,
-            b"save\r\r\n",
-            b"REFUSED 1\n",
-            b"",
-        ),
-        (
-            "a camera number out of range",
-            &ONE,
-            wide,
-            b"REFUSED 2\n",
-            b"",
-        ),
-        (
-            "a view that is not built",
-            &ONE,
-            hidden,
-            b"REFUSED 1\n",
-            b"",
-        ),
-        (
-            "lines that are none",
-            &ONE,
-            b"save now\nSAVE\ncount all show\nedit 0 0 0 9 9 9 all\n",
-            b"REFUSED 1\nREFUSED 1\nREFUSED 1\nREFUSED 1\n",
-            b"",
-        ),
-    ];
-    for (name, records, script, replies, journal) in table {
-        let (ended, got, made) = served(rt.alloc(), plain(rt.alloc(), records)?, script)?;
-        assert_eq!(rt; ended.status, Status::Done, "{name}");
-        assert_eq!(rt; got.as_slice(), replies, "{name}");
-        assert_eq!(rt; made.as_slice(), journal, "{name}");
+/// The pieces of a text, one after another.
+pub(crate) fn joined(alloc: Global, pieces: &[&[u8]]) -> Result<Vec<u8>, Fail> {
+    let mut text = Vec::new(alloc);
+    for piece in pieces {
+        text.extend_from_slice(piece)?;
     }
+    Ok(text)
+}
+
+/// These replies' heads, and then the survey of one point at (0, 0, 5) with this class byte.
+fn then_file(alloc: Global, heads: &[u8], class: u8) -> Result<Vec<u8>, Fail> {
+    let survey = plain(alloc, &[(0, 0, 5, class)])?;
+    joined(alloc, &[heads, survey.as_slice()])
+}
+
+/// Serves views, edits and a save over a survey, which have to give these replies.
+fn serves_each_line(
+    rt: &impl Abort,
+    alloc: Global,
+    survey: &[u8],
+    replies: &[u8],
+) -> Result<(), Fail> {
+    let script =
+        b"view ortho 1 1 0 0 0 1 0 0 0 1 0 0 0 1 1 1 0 10 class all show\nedit 0 0 0 9 9 9 2 6\n\
+          view ortho 1 1 0 0 0 1 0 0 0 1 0 0 0 1 1 1 0 10 class all show\nedit 0 0 0 9 9 4 all 9\nsave\n";
+    let journal = b"edit 0 0 0 9 9 9 2 6\nedit 0 0 0 9 9 4 all 9\n";
+    let ended = serves(rt, alloc, survey, script, replies, journal)?;
+    command_ended(rt, &ended, Status::Done, Reason::Finished);
+    let marks = [0, 1, 1, 2, 2];
+    session_ended(rt, &ended, Reason::Finished, script.len() as u64, &marks);
+    entries_are(rt, &ended.told.history, b"PUEPUEPU");
     Ok(())
 }
 
 #[test]
-fn a_line_has_at_most_4096_bytes(rt: HostRuntime) -> Result<(), Fail> {
-    for (length, replies) in [(4096, b"".as_slice()), (4097, b"REFUSED 1\n".as_slice())] {
-        let mut script = vec![in rt.alloc(); b' '; length]?;
-        script.push(b'\n')?;
-        let (ended, got, _) = served(rt.alloc(), plain(rt.alloc(), &ONE)?, &script)?;
-        assert_eq!(rt; ended.status, Status::Done, "{length}");
-        assert_eq!(rt; got.as_slice(), replies, "{length}");
+fn a_session_of_views_edits_and_a_save(rt: HostRuntime) -> Result<(), Fail> {
+    let heads = joined(
+        rt.alloc(),
+        &[
+            b"PICTURE 0 14\n",
+            CLASS_2,
+            b"EDITED 1 1\nPICTURE 1 14\n",
+            CLASS_6,
+            b"EDITED 2 0\nFILE 2 395\n",
+        ],
+    )?;
+    let replies = then_file(rt.alloc(), &heads, 6)?;
+    let survey = plain(rt.alloc(), &ONE)?;
+    serves_each_line(&rt, rt.alloc(), survey.as_slice(), &replies)
+}
+
+/// Serves a script over a plain survey of these records, which has to end well with these replies
+/// and this journal.
+pub(crate) fn replies(
+    rt: &impl Abort,
+    alloc: Global,
+    records: &[Record],
+    script: &[u8],
+    replies: &[u8],
+    journal: &[u8],
+) -> Result<(), Fail> {
+    let survey = plain(alloc, records)?;
+    let ended = serves(rt, alloc, survey.as_slice(), script, replies, journal)?;
+    command_ended(rt, &ended, Status::Done, Reason::Finished);
+    Ok(())
+}
+
+#[test]
+fn flags_stay_in_a_saved_file(rt: HostRuntime) -> Result<(), Fail> {
+    let script = b"edit 0 0 0 10 10 10 2 6\nsave\n";
+    let wanted = then_file(rt.alloc(), b"EDITED 1 1\nFILE 1 395\n", 0xE6)?;
+    let journal = b"edit 0 0 0 10 10 10 2 6\n";
+    replies(
+        &rt,
+        rt.alloc(),
+        &[(0, 0, 5, 0xE2)],
+        script,
+        &wanted,
+        journal,
+    )
+}
+
+#[test]
+fn one_cr_is_dropped_blanks_are_no_line_and_the_last_needs_no_lf(
+    rt: HostRuntime,
+) -> Result<(), Fail> {
+    let script = b"save\r\n\n \t\n\r\nedit 0 0 0 9 9 9 all 6";
+    let mut wanted = then_file(rt.alloc(), b"FILE 0 395\n", 2)?;
+    wanted.extend_from_slice(b"EDITED 1 1\n")?;
+    let journal = b"edit 0 0 0 9 9 9 all 6\n";
+    replies(&rt, rt.alloc(), &ONE, script, &wanted, journal)
+}
+
+#[test]
+fn replies_and_journals_worked_by_hand(rt: HostRuntime) -> Result<(), Fail> {
+    let none = b"".as_slice();
+    for (script, wanted, journal) in [
+        (
+            b"edit 007 -0 0 9 9 9 3,1-2,2 06\n".as_slice(),
+            b"EDITED 1 0\n".as_slice(),
+            b"edit 7 0 0 9 9 9 1-3 6\n".as_slice(),
+        ),
+        // A class for which format 0 has no room.
+        (b"edit 0 0 0 9 9 9 all 32\n", b"REFUSED 4\n", none),
+        // The second CR is a word.
+        (b"save\r\r\n", b"REFUSED 1\n", none),
+        // A camera number out of range.
+        (
+            b"view ortho 4097 1 0 0 0 1 0 0 0 1 0 0 0 1 1 1 0 10 class all show\n",
+            b"REFUSED 2\n",
+            none,
+        ),
+        // A view that is not built.
+        (
+            b"view ortho 1 1 0 0 0 1 0 0 0 1 0 0 0 1 1 1 0 10 class all hide\n",
+            b"REFUSED 1\n",
+            none,
+        ),
+        // Lines that are none.
+        (
+            b"save now\nSAVE\ncount all show\nedit 0 0 0 9 9 9 all\n",
+            b"REFUSED 1\nREFUSED 1\nREFUSED 1\nREFUSED 1\n",
+            none,
+        ),
+    ] {
+        replies(&rt, rt.alloc(), &ONE, script, wanted, journal)?;
     }
+    Ok(())
+}
+
+/// Serves a line of so many blanks, which has to give these replies.
+fn replies_to_blanks(
+    rt: &impl Abort,
+    alloc: Global,
+    length: usize,
+    wanted: &[u8],
+) -> Result<(), Fail> {
+    let mut script = vec![in alloc; b' '; length]?;
+    script.push(b'\n')?;
+    replies(rt, alloc, &ONE, &script, wanted, b"")
+}
+
+#[test]
+fn a_line_has_at_most_4096_bytes(rt: HostRuntime) -> Result<(), Fail> {
+    replies_to_blanks(&rt, rt.alloc(), 4096, b"")?;
+    replies_to_blanks(&rt, rt.alloc(), 4097, b"REFUSED 1\n")
+}
+
+/// Serves so many empty lines, which have to give no reply, and to end so.
+fn ends_after(
+    rt: &impl Abort,
+    alloc: Global,
+    length: usize,
+    status: Status,
+    reason: Reason,
+) -> Result<(), Fail> {
+    let script = vec![in alloc; b'\n'; length]?;
+    let survey = plain(alloc, &ONE)?;
+    let ended = serves(rt, alloc, survey.as_slice(), &script, b"", b"")?;
+    command_ended(rt, &ended, status, Reason::Finished);
+    session_ended(rt, &ended, reason, length as u64, &[]);
     Ok(())
 }
 
@@ -215,53 +252,72 @@ fn a_line_has_at_most_4096_bytes(rt: HostRuntime) -> Result<(), Fail> {
 fn a_session_has_at_most_two_to_the_20_bytes(rt: HostRuntime) -> Result<(), Fail> {
     let limit = 1 << 20;
     let long = Status::SessionLimit { at: 4 };
-    for (length, status, reason) in [
-        (limit, Status::Done, Reason::Finished),
-        (limit + 1, long, Reason::SessionLimit),
-    ] {
-        let script = vec![in rt.alloc(); b'\n'; length]?;
-        let (ended, got, journal) = served(rt.alloc(), plain(rt.alloc(), &ONE)?, &script)?;
-        assert_eq!(rt; ended.status, status);
-        let (why, taken, _) = ending(rt.alloc(), &ended)?;
-        assert_eq!(rt; why, reason);
-        assert_eq!(rt; taken, length as u64);
-        assert_eq!(rt; got.len() + journal.len(), 0);
-    }
-    Ok(())
+    ends_after(&rt, rt.alloc(), limit, Status::Done, Reason::Finished)?;
+    ends_after(&rt, rt.alloc(), limit + 1, long, Reason::SessionLimit)
 }
 
 #[test]
 fn a_journal_makes_the_same_edits_again(rt: HostRuntime) -> Result<(), Fail> {
+    let wanted = then_file(rt.alloc(), b"EDITED 1 1\nEDITED 2 1\nFILE 2 395\n", 7)?;
+    let journal = b"edit -9 -9 -9 9 9 9 all 6\nedit 0 0 0 0 0 9 0-6 7\n";
     let script = b"edit -9 -9 -9 9 9 9 all 6\nedit 0 0 0 0 0 9 0-5,6 007\nsave\n";
-    let (_, replies, journal) = served(rt.alloc(), plain(rt.alloc(), &ONE)?, script)?;
-    let again = joined(rt.alloc(), &[&journal, b"save\n"])?;
-    let (_, same, journal_again) = served(rt.alloc(), plain(rt.alloc(), &ONE)?, &again)?;
-    let canonical = b"edit -9 -9 -9 9 9 9 all 6\nedit 0 0 0 0 0 9 0-6 7\n".as_slice();
-    assert_eq!(rt; journal.as_slice(), canonical);
-    assert_eq!(rt; same.as_slice(), replies.as_slice());
-    assert_eq!(rt; journal_again.as_slice(), canonical);
+    replies(&rt, rt.alloc(), &ONE, script, &wanted, journal)?;
+    let again = b"edit -9 -9 -9 9 9 9 all 6\nedit 0 0 0 0 0 9 0-6 7\nsave\n";
+    replies(&rt, rt.alloc(), &ONE, again, &wanted, journal)
+}
+
+/// Serves a script of canonical edits, which has to be the journal.
+fn journals(rt: &impl Abort, alloc: Global, script: &[u8]) -> Result<(), Fail> {
+    let mut desk = StillDesk::empty(alloc);
+    let survey = plain(alloc, &ONE)?;
+    fill(
+        alloc,
+        &mut desk,
+        &[("a.las", survey.as_slice()), ("i", script)],
+    )?;
+    ends(rt, alloc, &mut desk, SERVE, Status::Done)?;
+    holds(rt, &desk, &[("j", script)], SERVE);
     Ok(())
+}
+
+#[test]
+fn a_long_journal_is_written_whole(rt: HostRuntime) -> Result<(), Fail> {
+    // 72,000 bytes, which pass 2^16.
+    let line = b"edit 0 0 0 9 9 9 0-31 6
+";
+    let script = joined(rt.alloc(), &[line.as_slice(); 3000])?;
+    journals(&rt, rt.alloc(), &script)
+}
+
+/// The file with all parts, its three records in the classes 6, 6 and 9, after these replies' heads.
+fn parts_reclassed(alloc: Global, heads: &[u8]) -> Result<Vec<u8>, Fail> {
+    let survey = parts(alloc)?;
+    let file = survey.as_slice();
+    joined(
+        alloc,
+        &[
+            heads,
+            &file[..453.min(file.len())],
+            &[6],
+            file.get(454..493).unwrap_or(&[]),
+            &[6],
+            file.get(494..533).unwrap_or(&[]),
+            &[9],
+            file.get(534..).unwrap_or(&[]),
+        ],
+    )
 }
 
 #[test]
 fn a_file_with_all_parts_is_saved_with_other_classes_alone(rt: HostRuntime) -> Result<(), Fail> {
     let script =
         b"edit 0 0 0 100 100 95 1 2\nedit 0 0 0 100 100 200 1,2 6\nedit 50 50 80 50 50 80 6 9\nsave\n";
-    let (ended, replies, journal) = served(rt.alloc(), parts(rt.alloc())?, script)?;
-    let mut file = parts(rt.alloc())?.into_vec();
-    for (place, class) in [(453, 6), (493, 6), (533, 9)] {
-        if let Some(byte) = file.get_mut(place) {
-            *byte = class;
-        }
-    }
-    let heads = b"EDITED 1 1\nEDITED 2 3\nEDITED 3 1\nFILE 3 624\n".as_slice();
-    assert_eq!(rt; ended.status, Status::Done);
-    assert_eq!(rt;
-        replies.as_slice(),
-        joined(rt.alloc(), &[heads, &file])?.as_slice()
-    );
-    let edits =
-        "edit 0 0 0 100 100 95 1 2\nedit 0 0 0 100 100 200 1-2 6\nedit 50 50 80 50 50 80 6 9\n";
-    assert_eq!(rt; journal.as_slice(), edits.as_bytes());
+    let journal =
+        b"edit 0 0 0 100 100 95 1 2\nedit 0 0 0 100 100 200 1-2 6\nedit 50 50 80 50 50 80 6 9\n";
+    let heads = b"EDITED 1 1\nEDITED 2 3\nEDITED 3 1\nFILE 3 624\n";
+    let wanted = parts_reclassed(rt.alloc(), heads)?;
+    let survey = parts(rt.alloc())?;
+    let ended = serves(&rt, rt.alloc(), survey.as_slice(), script, &wanted, journal)?;
+    command_ended(&rt, &ended, Status::Done, Reason::Finished);
     Ok(())
 }

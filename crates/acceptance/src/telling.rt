@@ -1,43 +1,45 @@
+use crate::desks::{File, leaves};
 use crate::parts::parts;
 use crate::plain::{gapped, words};
+use crate::same::same;
 use std::alloc::Global;
+use std::process::Abort;
 use std::test::Fail;
-use view_base::Bytes;
-use view_commands::{Status, info, run};
-use view_ends::{MemDesk, NoBeside};
+use view_commands::{Status, info};
+use view_ends::{MemDesk, StillDesk};
 
-/// How an `info` of these bytes ends, and its text.
-fn told(alloc: Global, survey: Bytes) -> Result<(Status, Vec<u8>), Fail> {
-    let mut desk = MemDesk::new(alloc);
-    desk.put("a.las", survey)?;
-    let ended = run(
-        alloc,
-        &words(alloc, "info a.las a.txt")?,
-        &mut desk,
-        &NoBeside,
-    );
-    let text = desk.bytes_of("a.txt").unwrap_or(&[]);
-    Ok((ended.status, text.to_vec(alloc)?))
+/// An `info` of these bytes has to give this text, over either desk, and to leave the survey.
+fn tells(rt: &impl Abort, alloc: Global, survey: &[u8], text: &[u8]) -> Result<(), Fail> {
+    let before: [File; 1] = [("a.las", survey)];
+    let after: [File; 2] = [("a.txt", text), ("a.las", survey)];
+    let line = "info a.las a.txt";
+    leaves::<MemDesk>(rt, alloc, line, &before, Status::Done, &after)?;
+    leaves::<StillDesk>(rt, alloc, line, &before, Status::Done, &after)
 }
 
 #[test]
 fn info_tells_each_part_of_a_file(rt: HostRuntime) -> Result<(), Fail> {
-    let survey = parts(rt.alloc())?;
-    assert_eq!(rt; survey.len(), 624);
-    let (status, text) = told(rt.alloc(), survey)?;
-    assert_eq!(rt; status, Status::Done);
     let want =
         b"LAS 1.4\nheader 375\nformat 7\nlength 40\nrecords 3\nvlrs 1\nevlrs 1\nbytes 624\nbox 0 0 80 50 50 100\nclass 1 2\nclass 2 1\n";
-    assert_eq!(rt; text.as_slice(), want.as_slice());
-    Ok(())
+    tells(&rt, rt.alloc(), parts(rt.alloc())?.as_slice(), want)
 }
 
 #[test]
 fn info_tells_no_box_where_there_are_no_records(rt: HostRuntime) -> Result<(), Fail> {
-    let (status, text) = told(rt.alloc(), gapped(rt.alloc())?)?;
-    assert_eq!(rt; status, Status::Done);
     let want = b"LAS 1.4\nheader 375\nformat 0\nlength 20\nrecords 0\nvlrs 1\nevlrs 0\nbytes 435\n";
-    assert_eq!(rt; text.as_slice(), want.as_slice());
+    tells(&rt, rt.alloc(), gapped(rt.alloc())?.as_slice(), want)
+}
+
+/// `info`'s own call has to refuse this line at this place.
+fn refuses(
+    rt: &impl Abort,
+    alloc: Global,
+    desk: &mut MemDesk,
+    line: &str,
+    at: u32,
+) -> Result<(), Fail> {
+    let status = info(alloc, &words(alloc, line)?, desk);
+    same(rt, &status, &Status::Words { at }, line);
     Ok(())
 }
 
@@ -45,9 +47,6 @@ fn info_tells_no_box_where_there_are_no_records(rt: HostRuntime) -> Result<(), F
 fn the_call_takes_its_own_row_alone(rt: HostRuntime) -> Result<(), Fail> {
     let mut desk = MemDesk::new(rt.alloc());
     desk.put("a.las", parts(rt.alloc())?)?;
-    for (line, at) in [("draw a.las a.ppm", 0), ("info a.las a.txt 1", 3)] {
-        let status = info(rt.alloc(), &words(rt.alloc(), line)?, &mut desk);
-        assert_eq!(rt; status, Status::Words { at }, "{line}");
-    }
-    Ok(())
+    refuses(&rt, rt.alloc(), &mut desk, "draw a.las a.ppm", 0)?;
+    refuses(&rt, rt.alloc(), &mut desk, "info a.las a.txt 1", 3)
 }

@@ -10,7 +10,8 @@ use Rattle.std.specs.List.{range_with_len}
 use Rattle.std.proofs.lemmas.List.FromFn.{get_or-range_with_len, length-range_with_len}
 use Rattle.std.proofs.lemmas.List.Sums.{get_or-le-sum_by, length-filter}
 use Rattle.view_meaning.specs.Classes.{has, all_classes}
-use Rattle.class_bits.specs.ClassSet.{IsClassSet, no_classes, members, bits_of, set_of}
+use Rattle.class_bits.specs.ClassSet.{no_classes, members, bits_of, set_of}
+use Rattle.class_bits.specs.Kept.{IsClassSet}
 
 -- the bit of a class in a set
 pub has-bit : (set : List ℕ) (c : ℕ) → has set c ≡ eqb (bit_at (get_or set (c / 64) 0) (c % 64)) 1

@@ -1,2 +1,2 @@
 pub mod ClassSet
-pub mod ClassList
+pub mod Kept

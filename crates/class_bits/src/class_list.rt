@@ -1,10 +1,26 @@
 ghost use Rattle.std.specs.Prelude.{◌≡◌, ◌<◌, ◌≤◌, length, IfSome};
 ghost use Rattle.std.specs.List.{position};
-ghost use Rattle.class_bits.specs.ClassSet.{IsClassSet, members};
-ghost use Rattle.class_bits.specs.ClassList.{class_list, is_dash, item_range, range_of};
+ghost use Rattle.class_bits.specs.ClassSet.{members};
+ghost use Rattle.class_bits.specs.Kept.{HasClasses, IsClassSet};
+ghost use Rattle.class_bits.specs.ClassSet.{class_list, is_dash, item_range, range_of};
 
 use crate::class_set::ClassSet;
-use view_base::read_digits;
+use view_base::{WordKind, read_digits};
+
+/// Words that are class lists.
+pub struct ClassWord;
+
+impl WordKind for ClassWord {
+    type Value = ClassSet;
+
+    ghost value = { class_list };
+
+    ghost Keeps = { HasClasses };
+
+    fn read(word: &[u8]) -> Option<ClassSet> {
+        read_classes(word)
+    }
+}
 
 /// The place of the first dash of an item.
 fn first_dash(item: &[u8]) -> Option<usize>

@@ -1,6 +1,7 @@
 ghost use Rattle.std.specs.Prelude.{◌≡◌, ℕ, ◌<◌, ◌≤◌, ◌==◌, ◌||◌, ◌&&◌, nat_le, true, false};
 ghost use Rattle.view_meaning.specs.Classes.{has, all_classes};
-ghost use Rattle.class_bits.specs.ClassSet.{IsClassSet, no_classes};
+ghost use Rattle.class_bits.specs.ClassSet.{no_classes};
+ghost use Rattle.class_bits.specs.Kept.{IsClassSet};
 
 use std::marker::Model;
 
@@ -18,7 +19,7 @@ impl Model for ClassSet {
 
     ghost view = { λ s. s.words };
 
-    ghost use Rattle.class_bits.specs.ClassSet.{IsClassSet};
+    ghost use Rattle.class_bits.specs.Kept.{IsClassSet};
 
     ghost invariant = { λ s. IsClassSet s.words };
 

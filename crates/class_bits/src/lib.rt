@@ -8,6 +8,6 @@ mod class_set;
 mod filter;
 
 pub use class_byte::{class_of, top_class, with_class};
-pub use class_list::read_classes;
+pub use class_list::{ClassWord, read_classes};
 pub use class_set::ClassSet;
 pub use filter::{Filter, passes};

@@ -6,7 +6,7 @@ use Rattle.std.proofs.lemmas.List.FromFn.{get_or-map-range_with_len, length-map-
 use Rattle.std.specs.List.{range_with_len}
 use Rattle.view_meaning.specs.Survey.{record_count, point_of}
 use Rattle.view_meaning.specs.Classes.{Edit, applies, class_after, class_at, classes, top_class}
-use Rattle.class_pages.specs.Changed.{after_edit}
+use Rattle.class_pages.specs.AfterEdit.{after_edit}
 use Rattle.class_pages.specs.Fitting.{EachFits}
 
 -- the first i classes are at most the format's greatest

@@ -8,9 +8,9 @@ use Rattle.std.proofs.lemmas.List.Sums.{sum_by-append, fold-append}
 use Rattle.std.specs.List.{range_with_len}
 use mir.Val.{bool_byte}
 use Rattle.view_meaning.specs.Survey.{record_count, record_length, record_at, format_of, class_place, class_byte, u8_at, point_of}
-use Rattle.view_meaning.specs.Classes.{Edit, class_of, class_after, class_at, classes}
+use Rattle.view_meaning.specs.Classes.{Edit, class_of, class_after, class_at, classes, changed}
 use Rattle.view_meaning.proofs.Nearest.{range_more}
-use Rattle.class_pages.specs.Changed.{after_edit, changed}
+use Rattle.class_pages.specs.AfterEdit.{after_edit}
 
 -- the first i items are those of f, the others are as they were
 pub record IsMadeBelow (i : ℕ) (f : ℕ → ℕ) (old new : List ℕ) : Type 0 where

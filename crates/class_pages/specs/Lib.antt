@@ -1,2 +1,2 @@
-pub mod Changed
+pub mod AfterEdit
 pub mod Fitting

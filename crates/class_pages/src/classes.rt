@@ -1,5 +1,5 @@
 ghost use Rattle.std.specs.Prelude.{◌≡◌, ◌≢◌, ◌≤◌, ◌<◌, ◌++◌, ◌∷◌, [], List, IfOk, length, slice_index};
-ghost use Rattle.class_pages.specs.Changed.{after_edit, changed};
+ghost use Rattle.class_pages.specs.AfterEdit.{after_edit};
 ghost use Rattle.class_pages.specs.Fitting.{EachFits};
 ghost use Rattle.view_meaning.specs.Classes as meaning;
 ghost use Rattle.view_meaning.specs.Survey.{record_count, format_of, point_of};
@@ -72,7 +72,7 @@ impl Classes {
         requires room { edit.now.to ≤ meaning.top_class (format_of survey.now) }
         ensures classes { IfOk result (λ made. made.0 ≡ after_edit survey.now self.now edit.now) }
         ensures edits { IfOk result (λ made. (edits : List meaning.Edit) → self.now ≡ meaning.classes survey.now edits → made.0 ≡ meaning.classes survey.now (edits ++ edit.now ∷ [])) }
-        ensures count { IfOk result (λ made. made.1 ≡ changed self.now made.0) }
+        ensures count { IfOk result (λ made. made.1 ≡ meaning.changed self.now made.0) }
         ensures size { IfOk result (λ made. length made.0 ≡ record_count survey.now) }
         ensures top { IfOk result (λ made. EachFits (format_of survey.now) self.now → EachFits (format_of survey.now) made.0) }
     {
@@ -101,7 +101,7 @@ fn reclassify(list: &mut [u8], survey: &Survey, edit: &Edit) -> u64
     requires room { edit.now.to ≤ meaning.top_class (format_of survey.now) }
     ensures classes { list.new ≡ after_edit survey.now list.old edit.now }
     ensures edits { (edits : List meaning.Edit) → list.old ≡ meaning.classes survey.now edits → list.new ≡ meaning.classes survey.now (edits ++ edit.now ∷ []) }
-    ensures count { result ≡ changed list.old list.new }
+    ensures count { result ≡ meaning.changed list.old list.new }
     ensures size { length list.new ≡ record_count survey.now }
     ensures top { EachFits (format_of survey.now) list.old → EachFits (format_of survey.now) list.new }
 {

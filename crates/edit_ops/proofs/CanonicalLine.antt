@@ -4,7 +4,7 @@ use Rattle.std.specs.Prelude.{codes}
 use Rattle.std.specs.Fmt.{signed_decimal}
 use Rattle.view_base.specs.declared.place.Point.{Point}
 use Rattle.view_meaning.specs.Classes.{Edit}
-use Rattle.edit_ops.specs.Canonical.{classes_text, canonical}
+use Rattle.edit_ops.specs.EditLine.{classes_text, canonical}
 
 -- three coordinates, each after a space
 abbrev pub corner_text : Point → List ℕ → List ℕ

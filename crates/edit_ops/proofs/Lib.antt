@@ -1,7 +1,6 @@
 pub mod CanonicalLine
 pub mod Coordinates
-pub mod EditOf
-pub mod LineWords
+pub mod EditLines
 pub mod ListText
 pub mod RunsOf
 pub mod Joined

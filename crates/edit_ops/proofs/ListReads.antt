@@ -10,10 +10,11 @@ use Rattle.std.proofs.lemmas.Fmt.{decimal_nonempty}
 use Rattle.std.proofs.lemmas.Slice.Eq.{bytes_eq-Decides}
 use Rattle.view_base.specs.Text.{is_blank}
 use Rattle.view_meaning.specs.Classes.{has, all_classes}
-use Rattle.class_bits.specs.ClassSet.{IsClassSet, members, set_of}
-use Rattle.class_bits.specs.ClassList.{is_comma, in_ranges, class_list}
+use Rattle.class_bits.specs.ClassSet.{members, set_of}
+use Rattle.class_bits.specs.Kept.{IsClassSet}
+use Rattle.class_bits.specs.ClassSet.{is_comma, in_ranges, class_list}
 use Rattle.class_bits.proofs.Items.{class_list-all, set_of-has}
-use Rattle.edit_ops.specs.Canonical.{onto_run, runs, run_text, classes_text}
+use Rattle.edit_ops.specs.EditLine.{onto_run, runs, run_text, classes_text}
 use Rattle.edit_ops.proofs.Joined.{AllClear, slice_split-joined}
 use Rattle.edit_ops.proofs.ListText.{classes_text-all, classes_text-runs, members-from_0, after_comma, join-first}
 use Rattle.edit_ops.proofs.NumberText.{digit_at, digit_clear, All-cons}

@@ -7,7 +7,8 @@ use Rattle.std.specs.Prelude.{codes}
 use Rattle.std.specs.Str.{bytes_eq}
 use Rattle.view_meaning.specs.Classes.{all_classes}
 use Rattle.class_bits.specs.ClassSet.{members}
-use Rattle.edit_ops.specs.Canonical.{run_text, runs, members_from, classes_text}
+use Rattle.edit_ops.specs.EditLine.{run_text, runs, classes_text}
+use Rattle.edit_ops.specs.Reading.{members_from}
 
 -- runs as they follow other runs: with a comma before each
 abbrev pub after_comma : List (ℕ × ℕ) → List ℕ

@@ -3,7 +3,8 @@ use Rattle.std.proofs.Common.{◌≡◌, ℕ, zero, suc, ◌+◌, ◌-◌, ◌<�
 use Rattle.std.specs.List.{range_with_len}
 use Rattle.std.proofs.lemmas.Bool.{cases_Bool, cases_eq, eq-eqb, ne_eqb}
 use Rattle.view_meaning.specs.Classes.{has}
-use Rattle.edit_ops.specs.Canonical.{onto_run, runs, members_from}
+use Rattle.edit_ops.specs.EditLine.{onto_run, runs}
+use Rattle.edit_ops.specs.Reading.{members_from}
 
 pub members_from-in : (set : List ℕ) (from : ℕ) → from < 256 → has set from ≡ true → members_from set from ≡ from ∷ members_from set (from + 1)
 unfolding members_from

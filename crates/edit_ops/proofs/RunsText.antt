@@ -5,8 +5,8 @@ use Rattle.std.proofs.lemmas.Bool.{cases_Bool, cases_eq, eqb-true, eq-eqb, ne_eq
 use Rattle.std.proofs.lemmas.List.{take_at, drop_at, drop-drop}
 use Rattle.std.proofs.lemmas.List.Folds.{list_any_none}
 use Rattle.view_meaning.specs.Classes.{has}
-use Rattle.class_bits.specs.ClassList.{is_dash, in_ranges, range_of, item_range, item_ranges}
-use Rattle.edit_ops.specs.Canonical.{onto_run, runs, run_text}
+use Rattle.class_bits.specs.ClassSet.{is_dash, in_ranges, range_of, item_range, item_ranges}
+use Rattle.edit_ops.specs.EditLine.{onto_run, runs, run_text}
 use Rattle.edit_ops.proofs.NumberText.{digit_at, digits-decimal}
 
 -- runs that do not fall and end at 255 at most

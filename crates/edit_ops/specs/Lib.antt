@@ -1,4 +1,3 @@
-pub mod Canonical
 pub mod Edit
 pub mod EditLine
 pub mod Reading

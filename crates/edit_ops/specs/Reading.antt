@@ -1,9 +1,8 @@
--- What a reader of an edit line knows part way through it.
-use Rattle.std.specs.Prelude.{◌≡◌, ℕ, ◌+◌, ◌≤◌, List, length, drop}
-use Rattle.edit_ops.specs.EditLine.{fitting}
+-- What a writer of class lists knows part way through a set.
+use Rattle.std.specs.Prelude.{ℕ, ◌-◌, List, filter}
+use Rattle.std.specs.List.{range_with_len}
+use Rattle.view_meaning.specs.Classes.{has}
 
--- of the words of a line so many are read, which all fit, and these are left
-pub record IsRead (line left : List (List ℕ)) (count : ℕ) : Type 0 where
-  pub fit : fitting 0 line ≡ count + fitting count left
-  pub left_are : left ≡ drop count line
-  pub within : count ≤ length line
+-- the classes of a set from one on, in rising order
+unfoldable pub members_from : List ℕ → ℕ → List ℕ
+members_from set from = filter (has set) (range_with_len from (256 - from))

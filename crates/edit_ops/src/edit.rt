@@ -19,7 +19,7 @@ pub struct Edit {
 
 impl Model for Edit {
     ghost use Rattle.view_meaning.specs.Classes as meaning;
-    ghost use Rattle.edit_ops.specs.Edit.{HasClasses};
+    ghost use Rattle.class_bits.specs.Kept.{HasClasses};
 
     ghost Value = { meaning.Edit };
 

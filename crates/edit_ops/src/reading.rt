@@ -1,188 +1,69 @@
-ghost use Rattle.std.specs.Prelude.{◌≡◌, ℕ, ◌+◌, ◌^◌, ◌<◌, ◌≤◌, [], ◌∷◌, List, length, drop, slice_index_or, Some, None, Ok, Err, OnOk, IfOk, IfErr, is_some, IsTrue};
-ghost use Rattle.view_base.specs.Text.{words};
-ghost use Rattle.edit_ops.specs.Edit.{HasClasses};
-ghost use Rattle.edit_ops.specs.EditLine.{coordinate, coordinate_at, classes_at, digits_at, point_at, fits, line_fault, edit_of};
-ghost use Rattle.edit_ops.specs.Reading.{IsRead};
+ghost use Rattle.std.specs.Prelude.{◌≡◌, ℕ, ◌+◌, ◌^◌, ◌<◌, ◌≤◌, Some, None, Ok, Err, OnOk, IfOk, IfErr};
+ghost use Rattle.view_base.specs.Text.{words, digits};
+ghost use Rattle.view_base.specs.Fitting.{word_at, misfit};
+ghost use Rattle.view_base.specs.Cursor.{all_words};
+ghost use Rattle.class_bits.specs.ClassSet.{class_list};
+ghost use Rattle.class_bits.specs.Kept.{HasClasses};
+ghost use Rattle.edit_ops.specs.EditLine.{coordinate, coordinate_at, point_at, fits, is_whole, edit_of};
 
 use crate::edit::Edit;
 use crate::fault::EditFault;
-use class_bits::{ClassSet, read_classes, top_class};
-use view_base::{Box3, Point, next_word, read_digits, read_number};
+use class_bits::{ClassSet, ClassWord, top_class};
+use view_base::{Box3, Cursor, DigitsWord, Form, Point, WordKind, WordsOf, read_number};
 
-/// The words of a line, read one after another: each one taken fits its place.
-#[derive(Drop)]
-struct EditWords<'a> {
-    line: &'a [u8],
-    at: usize,
-    place: u32,
-    ghost in_line: { at ≤ length line.now },
-    ghost read: { IsRead (words line.now) (words (drop at line.now)) place },
+/// The words of an edit line.
+struct EditForm;
+
+impl Form for EditForm {
+    ghost fits = { fits };
+
+    ghost whole = { is_whole };
 }
 
-/// A word of a line, and where it ends there.
-#[derive(Clone, Copy)]
-struct Word<'a> {
-    text: &'a [u8],
-    end: usize,
-}
+/// Words that are numbers of 32 bits.
+struct CoordinateWord;
 
-impl<'a> EditWords<'a> {
-    /// Before the first word of a line.
-    fn new(line: &'a [u8]) -> Self
-        ensures line { result.line.now ≡ line.now }
-        ensures place { result.place ≡ 0 }
-    {
-        EditWords {
-            line,
-            at: 0,
-            place: 0,
-        }
-    }
+impl WordKind for CoordinateWord {
+    type Value = i32;
 
-    /// The next word, or the fault that none is left.
-    fn peek(&self) -> Result<Word<'a>, EditFault>
-        requires { self.now.place < 9 }
-        ensures word { IfOk result (λ w. words (drop self.now.at self.now.line.now)
-            ≡ w.text.now ∷ words (drop w.end self.now.line.now)) }
-        ensures end { IfOk result (λ w. w.end ≤ length self.now.line.now) }
-        ensures fault { IfErr result (λ e. line_fault (words self.now.line.now) ≡ Some e) }
-    {
-        match next_word(self.line, self.at) {
-            Some((start, end)) => Ok(Word {
-                text: &self.line[start..end],
-                end,
-            }),
-            None => Err(self.fault()),
-        }
-    }
+    ghost value = { coordinate };
 
-    /// The fault that the next word doesn't fit.
-    fn fault(&self) -> EditFault
-        ensures { result ≡ EditFault.Line self.now.place }
-    {
-        EditFault::Line { at: self.place }
-    }
+    ghost Keeps = { λ z. Unit {0} };
 
-    /// Takes the next word, which fits.
-    fn take(&mut self, word: Word)
-        requires end { word.end ≤ length self.old.line.now }
-        requires next { words (drop self.old.at self.old.line.now)
-            ≡ word.text.now ∷ words (drop word.end self.old.line.now) }
-        requires fits { IsTrue (fits self.old.place word.text.now) }
-        requires few { self.old.place < 9 }
-        ensures line { self.new.line.now ≡ self.old.line.now }
-        ensures place { self.new.place ≡ self.old.place + 1 }
-    {
-        self.at = word.end;
-        self.place += 1;
-    }
-
-    /// Takes the next word where it is `edit`.
-    fn keyword(&mut self) -> Result<(), EditFault>
-        requires { self.old.place ≡ 0 }
-        ensures line { self.new.line.now ≡ self.old.line.now }
-        ensures place { OnOk result (self.new.place ≡ 1) }
-        ensures fault { IfErr result (λ e. line_fault (words self.old.line.now) ≡ Some e) }
-    {
-        let word = self.peek()?;
-        if word.text != b"edit".as_slice() {
-            return Err(self.fault());
-        }
-        self.take(word);
-        Ok(())
-    }
-
-    /// Takes the next word where it is a coordinate.
-    fn coordinate(&mut self) -> Result<i32, EditFault>
-        requires first { 1 ≤ self.old.place }
-        requires last { self.old.place ≤ 6 }
-        ensures line { self.new.line.now ≡ self.old.line.now }
-        ensures place { OnOk result (self.new.place ≡ self.old.place + 1) }
-        ensures value { IfOk result
-            (λ z. z ≡ coordinate_at (words self.old.line.now) self.old.place) }
-        ensures fault { IfErr result (λ e. line_fault (words self.old.line.now) ≡ Some e) }
-    {
-        let word = self.peek()?;
-        match read_coordinate(word.text) {
-            Some(value) => {
-                self.take(word);
-                Ok(value)
-            }
-            None => Err(self.fault()),
-        }
-    }
-
-    /// Takes the next word where it is a class list.
-    fn classes(&mut self) -> Result<ClassSet, EditFault>
-        requires { self.old.place ≡ 7 }
-        ensures line { self.new.line.now ≡ self.old.line.now }
-        ensures place { OnOk result (self.new.place ≡ 8) }
-        ensures value { IfOk result (λ set. set ≡ classes_at (words self.old.line.now) 7) }
-        ensures classes { IfOk result HasClasses }
-        ensures fault { IfErr result (λ e. line_fault (words self.old.line.now) ≡ Some e) }
-    {
-        let word = self.peek()?;
-        match read_classes(word.text) {
-            Some(classes) => {
-                self.take(word);
-                Ok(classes)
-            }
-            None => Err(self.fault()),
-        }
-    }
-
-    /// Takes the next word where it is 1 to 20 digits.
-    fn digits(&mut self) -> Result<u128, EditFault>
-        requires { self.old.place ≡ 8 }
-        ensures line { self.new.line.now ≡ self.old.line.now }
-        ensures place { OnOk result (self.new.place ≡ 9) }
-        ensures value { IfOk result (λ n. n ≡ digits_at (words self.old.line.now) 8) }
-        ensures small { IfOk result (λ n. n < 10 ^ 20) }
-        ensures fault { IfErr result (λ e. line_fault (words self.old.line.now) ≡ Some e) }
-    {
-        let word = self.peek()?;
-        match read_digits(word.text) {
-            Some(value) => {
-                self.take(word);
-                Ok(value)
-            }
-            None => Err(self.fault()),
-        }
-    }
-
-    /// The end of a whole line, or the fault of a further word.
-    fn end(&self) -> Result<(), EditFault>
-        requires { self.now.place ≡ 9 }
-        ensures whole { OnOk result (line_fault (words self.now.line.now) ≡ None) }
-        ensures fault { IfErr result (λ e. line_fault (words self.now.line.now) ≡ Some e) }
-    {
-        match next_word(self.line, self.at) {
-            Some(_) => Err(self.fault()),
-            None => Ok(()),
-        }
+    fn read(word: &[u8]) -> Option<i32> {
+        i32::try_from(read_number(word)?).ok()
     }
 }
 
-/// The coordinate that a word is, or `None` where it is no number of 32 bits.
-fn read_coordinate(word: &[u8]) -> Option<i32>
-    ensures { result ≡ coordinate word.now }
+/// The coordinate that the next word is.
+fn read_coordinate(rest: &mut Cursor<EditForm>) -> Result<i32, u32>
+    requires first { 1 ≤ rest.old.place }
+    requires last { rest.old.place ≤ 6 }
+    ensures source { rest.new.source ≡ rest.old.source }
+    ensures place { OnOk result (rest.new.place ≡ rest.old.place + 1) }
+    ensures value { IfOk result
+        (λ z. z ≡ coordinate_at (all_words rest.old.source) rest.old.place) }
+    ensures misfit { IfErr result
+        (λ at. misfit fits is_whole (all_words rest.old.source) ≡ Some at) }
 {
-    i32::try_from(read_number(word)?).ok()
+    rest.read::<CoordinateWord>()
 }
 
 /// The point whose coordinates are the next three words.
-fn read_point(rest: &mut EditWords) -> Result<Point, EditFault>
+fn read_point(rest: &mut Cursor<EditForm>) -> Result<Point, u32>
     requires first { 1 ≤ rest.old.place }
     requires last { rest.old.place ≤ 4 }
-    ensures line { rest.new.line.now ≡ rest.old.line.now }
+    ensures source { rest.new.source ≡ rest.old.source }
     ensures place { OnOk result (rest.new.place ≡ rest.old.place + 3) }
-    ensures value { IfOk result (λ p. p ≡ point_at (words rest.old.line.now) rest.old.place) }
-    ensures fault { IfErr result (λ e. line_fault (words rest.old.line.now) ≡ Some e) }
+    ensures value { IfOk result
+        (λ p. p ≡ point_at (all_words rest.old.source) rest.old.place) }
+    ensures misfit { IfErr result
+        (λ at. misfit fits is_whole (all_words rest.old.source) ≡ Some at) }
 {
     Ok(Point {
-        x: rest.coordinate()?,
-        y: rest.coordinate()?,
-        z: rest.coordinate()?,
+        x: read_coordinate(rest)?,
+        y: read_coordinate(rest)?,
+        z: read_coordinate(rest)?,
     })
 }
 
@@ -194,24 +75,24 @@ struct Fields {
     to: u128,
 }
 
-/// The fields of a whole line.
-fn read_fields(line: &[u8]) -> Result<Fields, EditFault>
-    ensures whole { OnOk result (line_fault (words line.now) ≡ None) }
+/// The fields of a whole line, or the first place where its words don't fit.
+fn read_fields(line: &[u8]) -> Result<Fields, u32>
+    ensures fit { OnOk result (misfit fits is_whole (words line.now) ≡ None) }
     ensures min { IfOk result (λ f. f.area.min ≡ point_at (words line.now) 1) }
     ensures max { IfOk result (λ f. f.area.max ≡ point_at (words line.now) 4) }
-    ensures from { IfOk result (λ f. f.from ≡ classes_at (words line.now) 7) }
-    ensures to { IfOk result (λ f. f.to ≡ digits_at (words line.now) 8) }
+    ensures from { IfOk result (λ f. class_list (word_at (words line.now) 7) ≡ Some f.from) }
+    ensures to { IfOk result (λ f. digits (word_at (words line.now) 8) ≡ Some f.to) }
     ensures classes { IfOk result (λ f. HasClasses f.from) }
     ensures small { IfOk result (λ f. f.to < 10 ^ 20) }
-    ensures fault { IfErr result (λ e. line_fault (words line.now) ≡ Some e) }
+    ensures misfit { IfErr result (λ at. misfit fits is_whole (words line.now) ≡ Some at) }
 {
-    let mut words = EditWords::new(line);
-    words.keyword()?;
-    let min = read_point(&mut words)?;
-    let max = read_point(&mut words)?;
-    let from = words.classes()?;
-    let to = words.digits()?;
-    words.end()?;
+    let mut rest = Cursor::<EditForm>::new(WordsOf::Line(line));
+    rest.keyword(b"edit")?;
+    let min = read_point(&mut rest)?;
+    let max = read_point(&mut rest)?;
+    let from = rest.read::<ClassWord>()?;
+    let to = rest.read::<DigitsWord>()?;
+    rest.end()?;
     Ok(Fields {
         area: Box3 { min, max },
         from,
@@ -225,7 +106,7 @@ fn read_fields(line: &[u8]) -> Result<Fields, EditFault>
 /// fit and the class is above the format's greatest.
 pub fn read_edit(line: &[u8], format: u8) -> Result<Edit, EditFault>
     requires { format ≤ 10 }
-    ensures { result ≡ edit_of line.now format }
+    ensures { result ≡ edit_of (words line.now) format }
 {
     match read_fields(line) {
         Ok(fields) => {
@@ -240,7 +121,7 @@ pub fn read_edit(line: &[u8], format: u8) -> Result<Edit, EditFault>
                 to: fields.to as u8,
             })
         }
-        Err(fault) => Err(fault),
+        Err(at) => Err(EditFault::Line { at }),
     }
 }
 

@@ -1,6 +1,7 @@
 ghost use Rattle.std.specs.Prelude.{◌≡◌, ℕ, ◌+◌, ◌<◌, ◌≤◌, [], ◌∷◌, IfSome, IfNone, true, false};
 ghost use Rattle.view_meaning.specs.Classes.{has};
-ghost use Rattle.edit_ops.specs.Canonical.{runs, members_from};
+ghost use Rattle.edit_ops.specs.EditLine.{runs};
+ghost use Rattle.edit_ops.specs.Reading.{members_from};
 
 use class_bits::ClassSet;
 

@@ -2,14 +2,14 @@ ghost use Rattle.std.specs.Prelude.{◌≡◌, ℕ, ◌+◌, ◌≤◌, ◌++◌
 ghost use Rattle.std.specs.Fmt.{signed_decimal};
 ghost use Rattle.std.specs.Int.{w32};
 ghost use Rattle.view_meaning.specs.Classes.{top_class};
+ghost use Rattle.view_base.specs.Text.{words};
 ghost use Rattle.edit_ops.specs.Edit.{IsPoint};
 ghost use Rattle.edit_ops.specs.EditLine.{edit_of};
-ghost use Rattle.edit_ops.specs.Canonical.{run_text, classes_text, canonical};
+ghost use Rattle.edit_ops.specs.EditLine.{run_text, classes_text, canonical};
 
 use crate::edit::Edit;
 use crate::runs::next_run;
 use class_bits::ClassSet;
-use itoa::Buffer;
 use view_base::{Bytes, OutOfMemory, Point};
 
 /// The most bytes of a class list: for each class 7 for its run, as `100-255`, and a comma.
@@ -27,15 +27,15 @@ pub fn edit_text(edit: &Edit, out: &mut Bytes) -> Result<(), OutOfMemory>
     ensures appended { OnOk result (out.new.items ≡ out.old.items ++ canonical edit.now) }
     ensures refused { OnErr result (out.new.items ≡ out.old.items) }
     ensures reads_back { OnOk result ((format : ℕ) → edit.now.to ≤ top_class format
-        → edit_of (canonical edit.now) format ≡ Ok edit.now) }
+        → edit_of (words (canonical edit.now)) format ≡ Ok edit.now) }
 {
     out.reserve(LINE)?;
-    append(out, b"edit");
+    out.append_within(b"edit");
     append_corner(out, edit.area.min);
     append_corner(out, edit.area.max);
-    append(out, b" ");
+    out.append_within(b" ");
     append_classes(out, &edit.from);
-    append(out, b" ");
+    out.append_within(b" ");
     append_class(out, edit.to);
     Ok(())
 }
@@ -56,26 +56,26 @@ fn append_corner(out: &mut Bytes, corner: Point)
 }
 
 /// Appends a space and a coordinate: at most 12 bytes, as ` -2147483648`.
+#[tactic(auto, using(view_base::proofs::Decimals::length_signed_decimal))]
 fn append_coordinate(out: &mut Bytes, number: i32)
     requires { 12 ≤ out.old.spare }
     ensures appended { out.new.items ≡ out.old.items ++ (32 ∷ signed_decimal number) }
     ensures room { out.old.spare ≤ out.new.spare + 12 }
     ensures fits { FitsSigned w32 number }
 {
-    let mut digits = Buffer::new();
-    append(out, b" ");
-    append(out, digits.format(number).as_bytes());
+    out.append_within(b" ");
+    out.append_signed(i64::from(number));
 }
 
 /// Appends a class in decimal: at most 3 bytes.
+#[tactic(auto, using(view_base::proofs::Decimals::length_decimal_byte))]
 fn append_class(out: &mut Bytes, class: u8)
     requires { 3 ≤ out.old.spare }
     ensures appended { out.new.items ≡ out.old.items ++ decimal class }
     ensures room { out.old.spare ≤ out.new.spare + 3 }
     ensures class { class ≤ 255 }
 {
-    let mut digits = Buffer::new();
-    append(out, digits.format(class).as_bytes());
+    out.append_decimal(u64::from(class));
 }
 
 /// Appends a run of classes: at most 7 bytes.
@@ -86,7 +86,7 @@ fn append_run(out: &mut Bytes, first: u8, last: u8)
 {
     append_class(out, first);
     if first != last {
-        append(out, b"-");
+        out.append_within(b"-");
         append_class(out, last);
     }
 }
@@ -98,7 +98,7 @@ fn append_classes(out: &mut Bytes, classes: &ClassSet)
     ensures room { out.old.spare ≤ out.new.spare + LIST }
 {
     if *classes == ClassSet::all() {
-        append(out, b"all");
+        out.append_within(b"all");
         return;
     }
     let mut from = 0;
@@ -116,19 +116,9 @@ fn append_item(out: &mut Bytes, is_first: bool, first: u8, last: u8)
     ensures room { out.old.spare ≤ out.new.spare + 8 }
 {
     if !is_first {
-        append(out, b",");
+        out.append_within(b",");
     }
     append_run(out, first, last);
-}
-
-/// Appends a piece that fits in the room.
-fn append(out: &mut Bytes, piece: &[u8])
-    requires { length piece.now ≤ out.old.spare }
-    ensures appended { out.new.items ≡ out.old.items ++ piece.now }
-    ensures room { out.old.spare ≤ out.new.spare + length piece.now }
-{
-    let done = out.append(piece);
-    done.unwrap();
 }
 
 #[cfg(test)]

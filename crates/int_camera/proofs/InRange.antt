@@ -11,7 +11,8 @@ use Rattle.view_meaning.specs.Camera.{orthographic}
 use Rattle.int_camera.specs.declared.numbers.Kind.{Kind}
 use Rattle.int_camera.specs.declared.numbers.Kind.TheVariants.{Ortho}
 use Rattle.int_camera.specs.declared.numbers.CameraLimit.{CameraLimit}
-use Rattle.int_camera.specs.Limits.{first_outside, is_outside, number, point_from, projection_of, ranges, IsCoordinate, IsVector}
+use Rattle.int_camera.specs.Limits.{first_outside, is_outside, number, point_from, projection_of, ranges}
+use Rattle.int_camera.specs.Kept.{IsCoordinate, IsVector}
 use Rattle.int_camera.proofs.Limits.{is_outside-at, is_outside-pixels, none_passes, within}
 
 -- the only kind there is

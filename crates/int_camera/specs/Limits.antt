@@ -1,5 +1,5 @@
 -- The numbers of a camera: the range of each, the first that is out of its range, and the camera that they describe.
-use Rattle.std.specs.Prelude.{ℕ, ◌+◌, ◌-◌, ◌*◌, ◌^◌, ◌≤◌, Bool, ◌||◌, ℤ, pos, neg_ℤ, ◌*ℤ◌, ◌≤ℤ◌, int_lt, unsigned_abs, List, [], ◌∷◌, ◌++◌, slice_index_or, Option}
+use Rattle.std.specs.Prelude.{ℕ, ◌+◌, ◌-◌, ◌*◌, ◌^◌, Bool, ◌||◌, ℤ, pos, neg_ℤ, ◌*ℤ◌, int_lt, unsigned_abs, List, [], ◌∷◌, ◌++◌, slice_index_or, Option}
 use Rattle.std.specs.List.{find, range_with_len}
 use Rattle.std.specs.Option.{option_map}
 use Rattle.view_base.specs.declared.place.Point.{Point}
@@ -87,26 +87,3 @@ lens_of kind n = record {
   near = unsigned_abs (number n 17);
   far = unsigned_abs (number n 18);
 }
-
--- a number of 32 bits with a sign
-abbrev pub IsCoordinate : ℤ → Type 0
-IsCoordinate z = (neg_ℤ (pos 2147483648) ≤ℤ z) × (z ≤ℤ pos 2147483647)
-
--- a vector whose parts are in range
-pub record IsVector (v : Point) : Type 0 where
-  pub x : (neg_ℤ (pos 32768) ≤ℤ v.x) × (v.x ≤ℤ pos 32767)
-  pub y : (neg_ℤ (pos 32768) ≤ℤ v.y) × (v.y ≤ℤ pos 32767)
-  pub z : (neg_ℤ (pos 32768) ≤ℤ v.z) × (v.z ≤ℤ pos 32767)
-
--- an orthographic camera whose numbers are all in range
-pub record IsOrthographic (lens : Lens) : Type 0 where
-  pub width : (1 ≤ lens.width) × (lens.width ≤ 4096)
-  pub height : (1 ≤ lens.height) × (lens.height ≤ 4096)
-  pub pixels : lens.width * lens.height ≤ 9437184
-  pub right : IsVector lens.right
-  pub down : IsVector lens.down
-  pub forward : IsVector lens.forward
-  pub scale : (1 ≤ lens.scale) × (lens.scale ≤ 2 ^ 40)
-  pub unit : (1 ≤ lens.unit) × (lens.unit ≤ 2 ^ 40)
-  pub depths : lens.near ≤ lens.far
-  pub deepest : lens.far ≤ 2 ^ 32 - 2

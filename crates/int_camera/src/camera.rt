@@ -1,5 +1,6 @@
 ghost use Rattle.std.specs.Prelude.{◌≡◌, ◌+◌, ◌*◌, ◌≤◌, None, Some, IfErr, IfOk, OnOk, ◌-◌, ◌^◌};
-ghost use Rattle.int_camera.specs.Limits.{first_outside, lens_of, number, point_from, projection_of, IsCoordinate};
+ghost use Rattle.int_camera.specs.Limits.{first_outside, lens_of, number, point_from, projection_of};
+ghost use Rattle.int_camera.specs.Kept.{IsCoordinate};
 
 use crate::numbers::{CameraLimit, CameraNumbers, first_limit};
 use std::marker::Model;
@@ -25,7 +26,7 @@ impl Model for Camera {
 
     ghost Value = { Lens };
 
-    ghost use Rattle.int_camera.specs.Limits.{IsOrthographic};
+    ghost use Rattle.int_camera.specs.Kept.{IsOrthographic};
 
     ghost view = { λ c. record { kind = orthographic; width = c.width; height = c.height; eye = c.eye; right = c.right; down = c.down; forward = c.forward; scale = c.scale; unit = c.unit; near = c.near; far = c.far } };
 

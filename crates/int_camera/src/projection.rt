@@ -1,6 +1,6 @@
 ghost use Rattle.std.specs.Prelude.{◌≡◌, ◌+◌, ◌*◌, ◌/◌, ◌-◌, ◌^◌, ◌<◌, ◌≤◌, ℤ, pos, neg_ℤ, ◌+ℤ◌, ◌-ℤ◌, ◌*ℤ◌, ◌≤ℤ◌, IfSome};
 ghost use Rattle.view_meaning.specs.Camera.{spot, away, between, dot, floor, from_edge};
-ghost use Rattle.int_camera.specs.Limits.{IsVector};
+ghost use Rattle.int_camera.specs.Kept.{IsVector};
 ghost use Rattle.int_camera.specs.Seen.{seen};
 
 use crate::camera::Camera;

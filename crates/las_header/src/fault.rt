@@ -4,13 +4,13 @@ use std::fmt;
 /// header block), with the numbers that show it.
 #[derive(Clone, Copy, Debug, PartialEq, Eq)]
 pub enum HeaderFault {
-    /// The file has fewer bytes than the block's 375: so many.
+    /// The file has fewer bytes than the block of its version, 227, 235 or 375: so many.
     TooShort { have: u64 },
     /// The file does not begin with `LASF`.
     Signature,
-    /// The version is not 1.4.
+    /// The version is not 1.2, 1.3 or 1.4.
     Version { major: u8, minor: u8 },
-    /// The header size is below 375.
+    /// The header size is below the bytes of the version's block.
     HeaderSize { size: u16 },
     /// The format byte is 128 or more: the points are compressed.
     Compressed { byte: u8 },
@@ -24,7 +24,7 @@ pub enum HeaderFault {
 
 impl fmt::Display for HeaderFault {
     ghost use Rattle.std.specs.Prelude.{Some};
-    ghost use Rattle.las_header.specs.Fault.{header_text};
+    ghost use Rattle.las_header.specs.FaultText.{header_text};
 
     ghost output = { λ fault. Some (header_text fault) };
 

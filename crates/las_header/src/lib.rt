@@ -1,5 +1,5 @@
-//! The public header block of a LAS file: its fields, the numbers at its offsets, and the first
-//! condition on them that a file does not meet.
+//! The public header block of a LAS file: its fields, and the first condition on them that a file
+//! does not meet.
 #![tactic(auto)]
 
 mod fault;
@@ -9,5 +9,4 @@ mod reading;
 
 pub use fault::HeaderFault;
 pub use header::Header;
-pub use number::{u16_in, u32_in, u64_in};
 pub use reading::{least_length, read_header};

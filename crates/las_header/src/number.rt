@@ -4,7 +4,8 @@ ghost use Rattle.view_meaning.specs.Survey.{u16_at, u32_at, u64_at};
 use byteorder::{ByteOrder, LittleEndian};
 
 /// The unsigned number in the two bytes from a place on.
-pub fn u16_in(bytes: &[u8], at: usize) -> u16
+#[tactic(auto, using(view_meaning::proofs::Reading::numbers))]
+pub(crate) fn u16_in(bytes: &[u8], at: usize) -> u16
     requires { at + 2 ≤ length bytes.now }
     ensures { result ≡ u16_at bytes.now at }
 {
@@ -12,7 +13,8 @@ pub fn u16_in(bytes: &[u8], at: usize) -> u16
 }
 
 /// The unsigned number in the four bytes from a place on.
-pub fn u32_in(bytes: &[u8], at: usize) -> u32
+#[tactic(auto, using(view_meaning::proofs::Reading::numbers))]
+pub(crate) fn u32_in(bytes: &[u8], at: usize) -> u32
     requires { at + 4 ≤ length bytes.now }
     ensures { result ≡ u32_at bytes.now at }
 {
@@ -20,7 +22,8 @@ pub fn u32_in(bytes: &[u8], at: usize) -> u32
 }
 
 /// The unsigned number in the eight bytes from a place on.
-pub fn u64_in(bytes: &[u8], at: usize) -> u64
+#[tactic(auto, using(view_meaning::proofs::Reading::numbers))]
+pub(crate) fn u64_in(bytes: &[u8], at: usize) -> u64
     requires { at + 8 ≤ length bytes.now }
     ensures { result ≡ u64_at bytes.now at }
 {

@@ -34,6 +34,7 @@ fn coordinate(rec: &[u8], at: usize) -> i32
 }
 
 /// The unsigned number in the two bytes from a place on.
+#[tactic(auto, using(view_meaning::proofs::Reading::numbers))]
 fn number(rec: &[u8], at: usize) -> u16
     requires { at + 2 ≤ length rec.now }
     ensures { result ≡ u16_at rec.now at }

@@ -4,7 +4,7 @@ use Rattle.std.specs.Prelude.{nat_le}
 use Rattle.std.proofs.Math.Nat.{mul-le-mul_left, mul-le-mul_right}
 use Rattle.std.proofs.lemmas.List.Elements.{All-get_or}
 use Rattle.std.proofs.lemmas.Bool.Decides.{nat_tests}
-use Rattle.view_meaning.specs.Layout.{Fault, fault, IsLaid, first_fault, unless, header_faults, vlr_fault, evlr_fault, least_length, few_bytes, unknown_format, short_record, early_points, missing_points}
+use Rattle.view_meaning.specs.Layout.{Fault, fault, IsLaid, first_fault, unless, header_faults, vlr_fault, evlr_fault, least_length, unknown_format, short_record, early_points, missing_points}
 use Rattle.view_meaning.specs.Survey.{header_size, points_at, vlr_count, format_of, record_length, record_count, evlrs_at, evlr_count, record_at, points_end}
 
 first_fault-append-some : (faults others : List (Option Fault)) (f : Fault) → first_fault faults ≡ Some f → first_fault (faults ++ others) ≡ Some f
@@ -67,7 +67,6 @@ laid b header vlrs small evlrs =
 
 -- the conditions that a file without a fault meets
 pub record IsSound (b : List ℕ) : Type 0 where
-  pub whole : 375 ≤ length b
   pub known : format_of b ≤ 10
   pub fitting : least_length (format_of b) ≤ record_length b
   pub after : header_size b ≤ points_at b
@@ -94,11 +93,10 @@ laid-sound b none =
     ∷ evlr_fault b (evlrs_at b) (points_end b) (evlr_count b)
     ∷ [] in
     record {
-      whole = at_least 375 (length b) (few_bytes (length b)) (none-each all 0 none);
-      known = at_least (format_of b) 10 (unknown_format (format_of b)) (none-each all 5 none);
-      fitting = at_least (least_length (format_of b)) (record_length b) (short_record (record_length b) (least_length (format_of b))) (none-each all 6 none);
-      after = at_least (header_size b) (points_at b) (early_points (points_at b)) (none-each all 7 none);
-      points = at_least (points_end b) (length b) (missing_points (points_end b) (length b)) (none-each all 9 none);
+      known = at_least (format_of b) 10 (unknown_format (format_of b)) (none-each all 6 none);
+      fitting = at_least (least_length (format_of b)) (record_length b) (short_record (record_length b) (least_length (format_of b))) (none-each all 7 none);
+      after = at_least (header_size b) (points_at b) (early_points (points_at b)) (none-each all 8 none);
+      points = at_least (points_end b) (length b) (missing_points (points_end b) (length b)) (none-each all 10 none);
     }
 
 -- the least record length of each format is 20 or more

@@ -1,4 +1,5 @@
 pub mod Fault
+pub mod FaultText
 pub mod Kept
 pub mod Loading
 pub mod Refusal

@@ -20,7 +20,7 @@ pub enum SurveyFault {
 
 impl fmt::Display for SurveyFault {
     ghost use Rattle.std.specs.Prelude.{Some};
-    ghost use Rattle.las_survey.specs.Fault.{text_of};
+    ghost use Rattle.las_survey.specs.FaultText.{text_of};
 
     ghost output = { λ fault. Some (text_of fault) };
 

@@ -8,7 +8,11 @@ mod limit_tests;
 mod loading;
 mod survey;
 #[cfg(test)]
+mod test_files;
+#[cfg(test)]
 mod tests;
+#[cfg(test)]
+mod version_tests;
 
 pub use fault::SurveyFault;
 pub use las_header::{Header, HeaderFault};

@@ -1,4 +1,4 @@
-ghost use Rattle.std.specs.Prelude.{◌≡◌, ℕ, ◌+◌, ◌^◌, ◌≤◌, ◌<◌, List, length, Some, IfOk, IfSome, IsErrOf};
+ghost use Rattle.std.specs.Prelude.{◌≡◌, ℕ, ◌+◌, ◌^◌, ◌≤◌, ◌<◌, [], List, length, Some, IfOk, IfSome, IsErrOf};
 ghost use Rattle.las_survey.specs.Fault.{fault_of};
 ghost use Rattle.las_survey.specs.Loading.{TookAll};
 ghost use Rattle.view_ends.specs.Ends.{Rose};
@@ -83,7 +83,8 @@ impl From<EvlrFault> for LoadFault {
 }
 
 /// Takes all bytes of a source, and answers the survey that they are, or the first fault of their
-/// layout. It asks for no byte past the one that makes a survey too long.
+/// layout. It asks for no byte past the one that makes a survey too long, and makes its room once
+/// where the source says about how much is to come.
 pub fn load<S: Source>(alloc: Global, source: &mut S) -> Result<Survey, LoadFault>
     ensures took { IfOk result (λ survey. TookAll (S.left source.old) (S.taken source.old) survey (S.left source.new) (S.taken source.new)) }
     ensures laid { IfOk result IsLaid }
@@ -91,7 +92,10 @@ pub fn load<S: Source>(alloc: Global, source: &mut S) -> Result<Survey, LoadFaul
     ensures read_fault { IsErrOf result LoadFault.ReadFault → Rose (S.faults source.old) (S.faults source.new) }
     ensures too_long { IsErrOf result LoadFault.TooLong → S.taken source.new ≡ S.taken source.old + (LIMIT + 1) }
     ensures too_many { IsErrOf result LoadFault.TooLong → IfSome (S.left source.old) (λ all. LIMIT < length all) }
-    ensures survey { (fault : SurveyFault) → IsErrOf result (LoadFault.Survey fault) → (bytes : List ℕ) × (length bytes ≤ LIMIT) × TookAll (S.left source.old) (S.taken source.old) bytes (S.left source.new) (S.taken source.new) × (layout.fault bytes ≡ Some (fault_of fault)) }
+    ensures survey { (fault : SurveyFault) → IsErrOf result (LoadFault.Survey fault)
+        → (bytes : List ℕ) × (length bytes ≤ LIMIT)
+        × TookAll (S.left source.old) (S.taken source.old) bytes (S.left source.new) (S.taken source.new)
+        × (layout.fault bytes ≡ Some (fault_of fault)) }
     ensures calm { (IsErrOf result LoadFault.ReadFault → ⊥) → S.faults source.new ≡ S.faults source.old }
     ensures later { S.faults source.old ≤ S.faults source.new }
     ensures few { S.taken source.new ≤ S.taken source.old + (LIMIT + 1) }
@@ -100,6 +104,17 @@ pub fn load<S: Source>(alloc: Global, source: &mut S) -> Result<Survey, LoadFaul
 {
     let bytes = taken_from(alloc, source)?;
     Survey::of(alloc, bytes)
+}
+
+/// An empty list with room for the bytes that are expected, as far as a survey may have them. A
+/// refusal of memory for a guess is no answer: what comes may fit all the same.
+fn room_for(alloc: Global, expected: u64) -> Bytes
+    ensures { result.items ≡ [] }
+{
+    let mut bytes = Bytes::new(alloc);
+    match bytes.reserve(expected.min(LIMIT as u64) as usize) {
+        Ok(()) | Err(OutOfMemory) => bytes,
+    }
 }
 
 /// All bytes of a source, where they are few enough.
@@ -116,7 +131,7 @@ fn taken_from<S: Source>(alloc: Global, source: &mut S) -> Result<Bytes, LoadFau
     ensures few { S.taken source.new ≤ S.taken source.old + (LIMIT + 1) }
     ensures no_more { (IsErrOf result LoadFault.TooLong → ⊥) → S.taken source.new ≤ S.taken source.old + LIMIT }
 {
-    let mut bytes = Bytes::new(alloc);
+    let mut bytes = room_for(alloc, source.expected());
     let mut piece = [0u8; PIECE];
     loop {
         let room = (LIMIT + 1 - bytes.len()).min(PIECE);

@@ -1,139 +1,180 @@
-use crate::{Header, HeaderFault, LoadFault, SurveyFault, VlrPlace, load};
+use crate::test_files::{EMPTY, EMPTY_1_2, EMPTY_1_3, Fields, append_header, append_vlr};
+use crate::{Header, HeaderFault, LoadFault, Survey, SurveyFault, VlrPlace, load};
 use std::alloc::Global;
+use std::process::Abort;
 use std::test::Fail;
 use view_base::{Bytes, OutOfMemory};
 use view_ends::StillSource;
 
-/// The fields of a public header block that are read.
-#[derive(Clone, Copy, Drop)]
-struct Fields {
-    signature: [u8; 4],
-    minor: u8,
-    size: u16,
-    points_at: u32,
-    vlrs: u32,
-    format: u8,
-    length: u16,
-    legacy: u32,
-    evlrs_at: u64,
-    evlrs: u32,
-    records: u64,
+/// The survey of a file's bytes.
+fn loaded(alloc: Global, file: &[u8]) -> Result<Survey, LoadFault> {
+    let mut bytes = Bytes::new(alloc);
+    bytes.append(file)?;
+    load(alloc, &mut StillSource::new(bytes))
 }
 
-/// A header of 375 bytes, with no points of format 0 and no variable length records.
-const EMPTY: Fields = Fields {
-    signature: *b"LASF",
-    minor: 4,
-    size: 375,
-    points_at: 375,
-    vlrs: 0,
-    format: 0,
-    length: 20,
-    legacy: 0,
-    evlrs_at: 0,
-    evlrs: 0,
-    records: 0,
-};
+/// A file is refused so, or loaded where no fault is wanted.
+pub fn is_refused(rt: &impl Abort, alloc: Global, file: &[u8], want: Option<LoadFault>) {
+    assert_eq!(rt; loaded(alloc, file).err(), want);
+}
 
-/// A file of a header and what follows it. All header bytes that are not read are 0.
+/// A file is loaded with these fields and places.
+pub fn is_loaded(
+    rt: &impl Abort,
+    alloc: Global,
+    file: &[u8],
+    header: &Header,
+    vlrs: &[VlrPlace],
+    evlrs: &[VlrPlace],
+) {
+    match loaded(alloc, file) {
+        Ok(survey) => {
+            holds(rt, &survey, file, header);
+            has_places(rt, &survey, vlrs, evlrs);
+        }
+        Err(fault) => assert_eq!(rt; Some(fault), None),
+    }
+}
+
+/// A survey has these bytes and fields.
+fn holds(rt: &impl Abort, survey: &Survey, file: &[u8], header: &Header) {
+    assert_eq!(rt; survey.bytes(), file);
+    assert_eq!(rt; *survey.header(), *header);
+    assert_eq!(rt; u64::from(survey.records()), header.records);
+}
+
+/// A survey has these places of variable length records and of extended ones.
+fn has_places(rt: &impl Abort, survey: &Survey, vlrs: &[VlrPlace], evlrs: &[VlrPlace]) {
+    assert_eq!(rt; survey.vlrs().as_slice(), vlrs);
+    assert_eq!(rt; survey.evlrs().as_slice(), evlrs);
+}
+
+/// The file of a header and what follows it.
 fn file(alloc: Global, fields: &Fields, rest: &[u8]) -> Result<Bytes, OutOfMemory> {
     let mut bytes = Bytes::new(alloc);
-    bytes.append(&fields.signature)?;
-    bytes.append(&[0; 20])?;
-    bytes.append(&[1, fields.minor])?;
-    bytes.append(&[0; 68])?;
-    bytes.append(&fields.size.to_le_bytes())?;
-    bytes.append(&fields.points_at.to_le_bytes())?;
-    bytes.append(&fields.vlrs.to_le_bytes())?;
-    bytes.append(&[fields.format])?;
-    bytes.append(&fields.length.to_le_bytes())?;
-    bytes.append(&fields.legacy.to_le_bytes())?;
-    bytes.append(&[0; 124])?;
-    bytes.append(&fields.evlrs_at.to_le_bytes())?;
-    bytes.append(&fields.evlrs.to_le_bytes())?;
-    bytes.append(&fields.records.to_le_bytes())?;
-    bytes.append(&[0; 120])?;
+    append_header(&mut bytes, fields)?;
     bytes.append(rest)?;
     Ok(bytes)
 }
 
-/// Why a file is refused.
+/// Why a file of a header and what follows it is refused.
 fn refusal(alloc: Global, fields: &Fields, rest: &[u8]) -> Option<LoadFault> {
     match file(alloc, fields, rest) {
-        Ok(bytes) => load(alloc, &mut StillSource::new(bytes)).err(),
+        Ok(bytes) => loaded(alloc, bytes.as_slice()).err(),
         Err(OutOfMemory) => Some(LoadFault::Memory),
     }
 }
 
-fn found(fault: SurveyFault) -> Option<LoadFault> {
+/// A file of LAS 1.4 with 180 bytes after its header is refused so.
+fn is_refused_with_180(rt: &impl Abort, alloc: Global, fields: &Fields, want: Option<LoadFault>) {
+    assert_eq!(rt; refusal(alloc, fields, &[0; 180]), want);
+}
+
+pub fn found(fault: SurveyFault) -> Option<LoadFault> {
     Some(LoadFault::Survey(fault))
 }
 
-fn found_in_header(fault: HeaderFault) -> Option<LoadFault> {
+pub fn found_in_header(fault: HeaderFault) -> Option<LoadFault> {
     found(SurveyFault::Header(fault))
+}
+
+/// A file of a header alone, of which one byte is changed, is refused so.
+fn is_refused_with_byte(
+    rt: &impl Abort,
+    alloc: Global,
+    fields: &Fields,
+    change: (usize, u8),
+    fault: HeaderFault,
+) {
+    assert_eq!(rt;
+        changed_refusal(alloc, fields, change),
+        found_in_header(fault)
+    );
+}
+
+/// Why a file of a header alone is refused, of which one byte is changed.
+fn changed_refusal(alloc: Global, fields: &Fields, change: (usize, u8)) -> Option<LoadFault> {
+    match file(alloc, fields, &[]) {
+        Ok(bytes) => loaded(alloc, changed(bytes, change).as_slice()).err(),
+        Err(OutOfMemory) => Some(LoadFault::Memory),
+    }
+}
+
+/// A file with the byte at a place changed.
+fn changed(bytes: Bytes, (at, byte): (usize, u8)) -> Bytes {
+    let mut all = bytes.into_vec();
+    if at < all.len() {
+        all[at] = byte;
+    }
+    Bytes::from_vec(all)
 }
 
 #[test]
 fn each_condition_on_the_header_has_its_fault(rt: HostRuntime) {
-    let signature = *b"LASf";
-    let (major, minor) = (1, 3);
-    let (have, least) = (33, 34);
-    for (fields, fault) in [
-        (Fields { signature, ..EMPTY }, HeaderFault::Signature),
-        (
-            Fields { minor, ..EMPTY },
-            HeaderFault::Version { major, minor },
-        ),
-        (
-            Fields { size: 374, ..EMPTY },
-            HeaderFault::HeaderSize { size: 374 },
-        ),
-        (
-            Fields {
-                format: 128,
-                ..EMPTY
-            },
-            HeaderFault::Compressed { byte: 128 },
-        ),
-        (
-            Fields {
-                format: 134,
-                ..EMPTY
-            },
-            HeaderFault::Compressed { byte: 134 },
-        ),
-        (
-            Fields {
-                format: 127,
-                ..EMPTY
-            },
-            HeaderFault::Format { byte: 127 },
-        ),
-        (
-            Fields {
-                format: 11,
-                ..EMPTY
-            },
-            HeaderFault::Format { byte: 11 },
-        ),
-        (
-            Fields {
-                format: 3,
-                length: have,
-                ..EMPTY
-            },
-            HeaderFault::RecordLength { have, least },
-        ),
-        (
-            Fields {
-                points_at: 374,
-                ..EMPTY
-            },
-            HeaderFault::Offset { offset: 374 },
-        ),
+    let (have, least) = (20, 34);
+    for (change, fault) in [
+        ((3, b'f'), HeaderFault::Signature),
+        ((94, 0x76), HeaderFault::HeaderSize { size: 374 }),
+        ((104, 128), HeaderFault::Compressed { byte: 128 }),
+        ((104, 134), HeaderFault::Compressed { byte: 134 }),
+        ((104, 127), HeaderFault::Format { byte: 127 }),
+        ((104, 11), HeaderFault::Format { byte: 11 }),
+        ((104, 3), HeaderFault::RecordLength { have, least }),
+        ((96, 0x76), HeaderFault::Offset { offset: 374 }),
     ] {
-        assert_eq!(rt; refusal(rt.alloc(), &fields, &[]), found_in_header(fault));
+        is_refused_with_byte(&rt, rt.alloc(), &EMPTY, change, fault);
     }
+}
+
+#[test]
+fn a_version_is_told_after_the_signature_and_before_the_bytes_of_its_block(rt: HostRuntime) {
+    for (change, fault) in [
+        ((3, b'f'), HeaderFault::Signature),
+        ((24, 2), HeaderFault::Version { major: 2, minor: 2 }),
+        ((25, 1), HeaderFault::Version { major: 1, minor: 1 }),
+        ((25, 5), HeaderFault::Version { major: 1, minor: 5 }),
+        ((25, 3), HeaderFault::TooShort { have: 227 }),
+        ((25, 4), HeaderFault::TooShort { have: 227 }),
+        ((94, 226), HeaderFault::HeaderSize { size: 226 }),
+    ] {
+        is_refused_with_byte(&rt, rt.alloc(), &EMPTY_1_2, change, fault);
+    }
+    let small = HeaderFault::HeaderSize { size: 234 };
+    is_refused_with_byte(&rt, rt.alloc(), &EMPTY_1_3, (94, 234), small);
+}
+
+#[test]
+fn a_short_file_of_las_1_4_is_told_after_its_signature(rt: HostRuntime) -> Result<(), Fail> {
+    let signature = *b"LASf";
+    let signed = file(rt.alloc(), &EMPTY, &[])?;
+    let other = file(rt.alloc(), &Fields { signature, ..EMPTY }, &[])?;
+    for (length, fault) in [
+        (226, HeaderFault::TooShort { have: 226 }),
+        (227, HeaderFault::Signature),
+        (374, HeaderFault::Signature),
+    ] {
+        let have = length as u64;
+        let short = found_in_header(HeaderFault::TooShort { have });
+        is_part_refused(&rt, rt.alloc(), &signed, length, short);
+        is_part_refused(&rt, rt.alloc(), &other, length, found_in_header(fault));
+    }
+    Ok(())
+}
+
+/// The first bytes of a file, so many, are refused so.
+fn is_part_refused(
+    rt: &impl Abort,
+    alloc: Global,
+    file: &Bytes,
+    length: usize,
+    want: Option<LoadFault>,
+) {
+    is_refused(
+        rt,
+        alloc,
+        file.as_slice().get(..length).unwrap_or(&[]),
+        want,
+    );
 }
 
 #[test]
@@ -185,17 +226,14 @@ fn a_part_that_the_file_only_claims_is_refused(rt: HostRuntime) {
         ),
         // 375 and 20 times 10.
         (
-            Fields {
-                legacy: 10,
-                ..EMPTY
-            },
+            Fields { count: 10, ..EMPTY },
             SurveyFault::Points {
                 need: 575,
                 have: 555,
             },
         ),
     ] {
-        assert_eq!(rt; refusal(rt.alloc(), &fields, &[0; 180]), found(fault));
+        is_refused_with_180(&rt, rt.alloc(), &fields, found(fault));
     }
 }
 
@@ -217,15 +255,15 @@ fn a_file_is_accepted_up_to_each_bound(rt: HostRuntime) {
             evlrs_at: 7,
             ..EMPTY
         },
-        Fields { legacy: 9, ..EMPTY },
-        // The legacy number is not looked at where the other is not 0.
+        Fields { count: 9, ..EMPTY },
+        // The number at 107 is not looked at where the other is not 0.
         Fields {
-            legacy: 10,
+            count: 10,
             records: 1,
             ..EMPTY
         },
     ] {
-        assert_eq!(rt; refusal(rt.alloc(), &fields, &[0; 180]), None);
+        is_refused_with_180(&rt, rt.alloc(), &fields, None);
     }
 }
 
@@ -254,9 +292,8 @@ fn each_format_has_its_least_record_length(rt: HostRuntime) {
 fn a_record_before_the_points_leaves_a_gap_or_is_refused(rt: HostRuntime) -> Result<(), Fail> {
     // A record with one byte after its 54, and 5 bytes.
     let mut rest = Bytes::new(rt.alloc());
-    rest.append(&[0; 20])?;
-    rest.append(&1u16.to_le_bytes())?;
-    rest.append(&[0; 38])?;
+    append_vlr(&mut rest, 1)?;
+    rest.append(&[0; 5])?;
     let cut = found(SurveyFault::Vlr { k: 0, at: 375 });
     for (points_at, want) in [(429, cut), (430, None), (435, None)] {
         let fields = Fields {
@@ -269,98 +306,19 @@ fn a_record_before_the_points_leaves_a_gap_or_is_refused(rt: HostRuntime) -> Res
     Ok(())
 }
 
-/// A file of format 7 with the parts that files have: a variable length record of 8 bytes at 375,
-/// three points of 40 bytes at 437, an extended record of 4 bytes at 557, and 3 bytes after it.
-fn file_with_parts(alloc: Global) -> Result<Bytes, OutOfMemory> {
-    let mut rest = Bytes::new(alloc);
-    rest.append(&[0; 2])?;
-    rest.append(b"LASF_Projection\0")?;
-    rest.append(&2112u16.to_le_bytes())?;
-    rest.append(&8u16.to_le_bytes())?;
-    rest.append(&[0; 32])?;
-    rest.append(&[0x11; 8])?;
-    for record in 0..3 {
-        rest.append(&[record; 40])?;
-    }
-    rest.append(&[0; 18])?;
-    rest.append(&1u16.to_le_bytes())?;
-    rest.append(&4u64.to_le_bytes())?;
-    rest.append(&[0; 32])?;
-    rest.append(&[0x33; 4])?;
-    rest.append(&[0x44; 3])?;
-    let fields = Fields {
-        points_at: 437,
-        vlrs: 1,
-        format: 7,
-        length: 40,
-        evlrs_at: 557,
-        evlrs: 1,
-        records: 3,
-        ..EMPTY
-    };
-    file(alloc, &fields, rest.as_slice())
-}
-
-#[test]
-fn a_file_with_all_parts_is_loaded_with_their_places(rt: HostRuntime) -> Result<(), Fail> {
-    let bytes = file_with_parts(rt.alloc())?;
-    let mut source = StillSource::new(file_with_parts(rt.alloc())?);
-    let survey = load(rt.alloc(), &mut source).expect(&rt, "a survey");
-    assert_eq!(rt; survey.bytes(), bytes.as_slice());
-    let header = Header {
-        minor: 4,
-        size: 375,
-        points_at: 437,
-        vlrs: 1,
-        format: 7,
-        length: 40,
-        records: 3,
-        evlrs_at: 557,
-        evlrs: 1,
-    };
-    assert_eq!(rt; *survey.header(), header);
-    assert_eq!(rt;
-        survey.vlrs().as_slice(),
-        [VlrPlace { at: 375, length: 8 }].as_slice()
-    );
-    assert_eq!(rt;
-        survey.evlrs().as_slice(),
-        [VlrPlace { at: 557, length: 4 }].as_slice()
-    );
-    assert_eq!(rt; survey.records(), 3);
+/// A fault is printed so.
+fn is_text(rt: &impl Abort, alloc: Global, fault: &SurveyFault, text: &str) -> Result<(), Fail> {
+    assert_eq!(rt; format!(in alloc; "{fault}")?.as_str(), text);
     Ok(())
 }
 
 #[test]
-fn a_file_cut_short_is_refused_by_the_part_that_is_cut(rt: HostRuntime) -> Result<(), Fail> {
-    let bytes = file_with_parts(rt.alloc())?;
-    let mut front = Bytes::new(rt.alloc());
-    for byte in bytes.as_slice() {
-        let have = front.len() as u64;
-        let want = match have {
-            0..375 => found_in_header(HeaderFault::TooShort { have }),
-            375..437 => found(SurveyFault::Vlr { k: 0, at: 375 }),
-            437..557 => found(SurveyFault::Points { need: 557, have }),
-            557..621 => found(SurveyFault::Evlr { k: 0, at: 557 }),
-            _ => None,
-        };
-        let mut copy = Bytes::new(rt.alloc());
-        copy.append(front.as_slice())?;
-        let refused = load(rt.alloc(), &mut StillSource::new(copy)).err();
-        assert_eq!(rt; refused, want, "of {have} bytes");
-        front.push(*byte)?;
-    }
-    assert_eq!(rt; front.len(), 624);
-    Ok(())
-}
-
-#[test]
-fn each_fault_has_its_text(rt: HostRuntime) -> Result<(), Fail> {
+fn each_fault_of_a_header_has_its_text(rt: HostRuntime) -> Result<(), Fail> {
     let (have, least) = (33, 34);
     for (fault, text) in [
         (HeaderFault::TooShort { have: 374 }, "only 374 bytes"),
         (HeaderFault::Signature, "no LASF signature"),
-        (HeaderFault::Version { major: 1, minor: 3 }, "version 1.3"),
+        (HeaderFault::Version { major: 1, minor: 1 }, "version 1.1"),
         (HeaderFault::HeaderSize { size: 374 }, "header size 374"),
         (
             HeaderFault::Compressed { byte: 134 },
@@ -373,9 +331,13 @@ fn each_fault_has_its_text(rt: HostRuntime) -> Result<(), Fail> {
         ),
         (HeaderFault::Offset { offset: 374 }, "point offset 374"),
     ] {
-        let fault = SurveyFault::Header(fault);
-        assert_eq!(rt; format!(in rt.alloc(); "{fault}")?.as_str(), text);
+        is_text(&rt, rt.alloc(), &SurveyFault::Header(fault), text)?;
     }
+    Ok(())
+}
+
+#[test]
+fn each_fault_of_a_part_has_its_text(rt: HostRuntime) -> Result<(), Fail> {
     let (need, have) = (395, 394);
     for (fault, text) in [
         (SurveyFault::Vlr { k: 0, at: 375 }, "VLR 0 at 375"),
@@ -385,7 +347,7 @@ fn each_fault_has_its_text(rt: HostRuntime) -> Result<(), Fail> {
         ),
         (SurveyFault::Evlr { k: 2, at: 495 }, "EVLR 2 at 495"),
     ] {
-        assert_eq!(rt; format!(in rt.alloc(); "{fault}")?.as_str(), text);
+        is_text(&rt, rt.alloc(), &fault, text)?;
     }
     Ok(())
 }

@@ -5,7 +5,7 @@ ghost use Rattle.view_meaning.specs.Layout.{evlr_fault};
 ghost use Rattle.view_meaning.specs.Survey.{u64_at};
 
 use crate::place::{VlrList, VlrPlace};
-use las_header::u64_in;
+use byteorder::{ByteOrder, LittleEndian};
 use std::alloc::Global;
 use view_base::OutOfMemory;
 
@@ -66,6 +66,7 @@ pub fn walk_evlrs(
 
 /// The length after its header of the extended variable length record at a place, where it begins
 /// at `points_end` or after and ends within the file.
+#[tactic(auto, using(view_meaning::proofs::Reading::numbers))]
 fn evlr_length(bytes: &[u8], at: u64, points_end: u64) -> Option<u64>
     ensures length { IfSome result (λ size. size ≡ u64_at bytes.now (at + 20)) }
     ensures after { IfSome result (λ _. points_end ≤ at) }
@@ -76,6 +77,6 @@ fn evlr_length(bytes: &[u8], at: u64, points_end: u64) -> Option<u64>
         return None;
     }
     let room = (bytes.len() as u64).checked_sub(at)?.checked_sub(HEADER)?;
-    let length = u64_in(bytes, at as usize + 20);
+    let length = LittleEndian::read_u64(&bytes[at as usize + 20..]);
     if length <= room { Some(length) } else { None }
 }

@@ -5,7 +5,7 @@ ghost use Rattle.view_meaning.specs.Layout.{vlr_fault};
 ghost use Rattle.view_meaning.specs.Survey.{u16_at};
 
 use crate::place::{VlrList, VlrPlace};
-use las_header::u16_in;
+use byteorder::{ByteOrder, LittleEndian};
 use std::alloc::Global;
 use view_base::OutOfMemory;
 
@@ -66,6 +66,7 @@ pub fn walk_vlrs(
 
 /// The length after its header of the variable length record at a place, where it ends at `end`
 /// or before.
+#[tactic(auto, using(view_meaning::proofs::Reading::numbers))]
 fn vlr_length(bytes: &[u8], at: u64, end: u64) -> Option<u64>
     requires { end ≤ length bytes.now }
     ensures length { IfSome result (λ size. size ≡ u16_at bytes.now (at + 20)) }
@@ -73,6 +74,6 @@ fn vlr_length(bytes: &[u8], at: u64, end: u64) -> Option<u64>
     ensures beyond { IfNone result (end < at + 54 + u16_at bytes.now (at + 20)) }
 {
     let room = end.checked_sub(at)?.checked_sub(HEADER)?;
-    let length = u64::from(u16_in(bytes, at as usize + 20));
+    let length = u64::from(LittleEndian::read_u16(&bytes[at as usize + 20..]));
     if length <= room { Some(length) } else { None }
 }

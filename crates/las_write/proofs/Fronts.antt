@@ -4,10 +4,11 @@ use Rattle.std.proofs.lemmas.List.{append_assoc, length-append, take-append-le}
 use Rattle.std.proofs.Math.Seq.{take-append-add}
 use Rattle.view_ends.specs.Ends.{Gains, GainsPart}
 use Rattle.view_ends.proofs.Pieces.{gains_more}
-use Rattle.view_meaning.specs.Saved.{saved}
+use Rattle.view_meaning.specs.Classes.{saved}
 use Rattle.view_meaning.specs.Survey.{points_at, points_end, record_count}
-use Rattle.las_write.specs.Points.{saved_records}
-use Rattle.las_write.proofs.Runs.{saved_records-append, saved-parts}
+use Rattle.las_write.specs.Points.{HasPoints, saved_records}
+use Rattle.las_write.proofs.Runs.{saved_records-append}
+use Rattle.las_write.proofs.Saved.{saved-parts}
 
 -- what holds, holds where there is an error
 pub on_err : {T E P : Type 0} (r : Result T E) → P → OnErr r P
@@ -55,31 +56,31 @@ part_of_run b cs piece old mid new given count all is within before this =
     (part_of_second old mid new (saved_records b cs 0 given) (saved_records b cs given count) before (subst (λ l. GainsPart mid l new) is this)))))
 
 -- a front of what stands before the points
-pub part_before_points : (b cs front : List ℕ) (old new : Option (List ℕ)) → front ≡ take (points_at b) b → GainsPart old front new → GainsPart old (saved b cs) new
-part_before_points b cs front old new is this =
-    subst (λ l. GainsPart old l new) (sym (saved-parts b cs))
+pub part_before_points : (b cs front : List ℕ) (old new : Option (List ℕ)) → HasPoints b → front ≡ take (points_at b) b → GainsPart old front new → GainsPart old (saved b cs) new
+part_before_points b cs front old new there is this =
+    subst (λ l. GainsPart old l new) (sym (saved-parts b cs there))
     (part_of_first old new (take (points_at b) b) (saved_records b cs 0 (record_count b) ++ drop (points_end b) b) (subst (λ l. GainsPart old l new) is this))
 
 -- what stands before the points, and a front of the records
-pub part_of_points : (b cs front : List ℕ) (old mid new : Option (List ℕ)) → front ≡ take (points_at b) b
+pub part_of_points : (b cs front : List ℕ) (old mid new : Option (List ℕ)) → HasPoints b → front ≡ take (points_at b) b
     → Gains old front mid → GainsPart mid (saved_records b cs 0 (record_count b)) new → GainsPart old (saved b cs) new
-part_of_points b cs front old mid new is before this =
-    subst (λ l. GainsPart old l new) (sym (saved-parts b cs))
+part_of_points b cs front old mid new there is before this =
+    subst (λ l. GainsPart old l new) (sym (saved-parts b cs there))
     (part_of_second old mid new (take (points_at b) b) (saved_records b cs 0 (record_count b) ++ drop (points_end b) b) (subst (λ l. Gains old l mid) is before)
     (part_of_first mid new (saved_records b cs 0 (record_count b)) (drop (points_end b) b) this))
 
 -- all up to the points' end, and a front of what stands after them
-pub part_after_points : (b cs front back : List ℕ) (old mid next new : Option (List ℕ)) → front ≡ take (points_at b) b → back ≡ drop (points_end b) b
+pub part_after_points : (b cs front back : List ℕ) (old mid next new : Option (List ℕ)) → HasPoints b → front ≡ take (points_at b) b → back ≡ drop (points_end b) b
     → Gains old front mid → Gains mid (saved_records b cs 0 (record_count b)) next → GainsPart next back new → GainsPart old (saved b cs) new
-part_after_points b cs front back old mid next new is last before points this =
-    subst (λ l. GainsPart old l new) (sym (saved-parts b cs))
+part_after_points b cs front back old mid next new there is last before points this =
+    subst (λ l. GainsPart old l new) (sym (saved-parts b cs there))
     (part_of_second old mid new (take (points_at b) b) (saved_records b cs 0 (record_count b) ++ drop (points_end b) b) (subst (λ l. Gains old l mid) is before)
     (part_of_second mid next new (saved_records b cs 0 (record_count b)) (drop (points_end b) b) points (subst (λ l. GainsPart next l new) last this)))
 
 -- all three parts
-pub got_saved : (b cs front back : List ℕ) (old mid next new : Option (List ℕ)) → front ≡ take (points_at b) b → back ≡ drop (points_end b) b
+pub got_saved : (b cs front back : List ℕ) (old mid next new : Option (List ℕ)) → HasPoints b → front ≡ take (points_at b) b → back ≡ drop (points_end b) b
     → Gains old front mid → Gains mid (saved_records b cs 0 (record_count b)) next → Gains next back new → Gains old (saved b cs) new
-got_saved b cs front back old mid next new is last before points this =
-    subst (λ l. Gains old l new) (sym (saved-parts b cs))
+got_saved b cs front back old mid next new there is last before points this =
+    subst (λ l. Gains old l new) (sym (saved-parts b cs there))
     (gains_more old mid new (take (points_at b) b) (saved_records b cs 0 (record_count b) ++ drop (points_end b) b) (subst (λ l. Gains old l mid) is before)
     (gains_more mid next new (saved_records b cs 0 (record_count b)) (drop (points_end b) b) points (subst (λ l. Gains next l new) last this)))

@@ -10,9 +10,8 @@ use Rattle.view_ends.proofs.Taken.{drop-add}
 use Rattle.view_meaning.proofs.Nearest.{range_more}
 use Rattle.view_meaning.proofs.Rows.{range-append}
 use Rattle.view_meaning.specs.Classes.{with_class}
-use Rattle.view_meaning.specs.Saved.{record_bytes, saved_record, saved}
 use Rattle.view_meaning.specs.Survey.{points_at, format_of, record_length, record_at, record_count, points_end, class_place}
-use Rattle.las_write.specs.Points.{saved_records}
+use Rattle.las_write.specs.Points.{record_bytes, saved_record, saved_records}
 
 -- every record has its class byte
 pub place_within : (format size : ℕ) → 20 ≤ size → class_place format < size
@@ -52,10 +51,9 @@ pub saved_records-append : (b cs : List ℕ) (first m n : ℕ) → saved_records
 saved_records-append b cs first m n =
     ap (flat_map (saved_record b cs)) (range-append first m n) ∙ flat_map-append (saved_record b cs) (range_with_len first m) (range_with_len (first + m) n)
 
--- a saved file is what stands before the points, all records with their classes, and what stands after them
-pub saved-parts : (b cs : List ℕ) → saved b cs ≡ take (points_at b) b ++ (saved_records b cs 0 (record_count b) ++ drop (points_end b) b)
-unfolding saved
-saved-parts b cs = append_assoc (take (points_at b) b) (saved_records b cs 0 (record_count b)) (drop (points_end b) b)
+-- what stands before the points, all records with their classes, and what stands after them
+abbrev pub parts : List ℕ → List ℕ → List ℕ
+parts b cs = take (points_at b) b ++ (saved_records b cs 0 (record_count b) ++ drop (points_end b) b)
 
 -- one more record at the end of a run
 pub saved_records-more : (b cs : List ℕ) (first count : ℕ) → saved_records b cs first (suc count) ≡ saved_records b cs first count ++ saved_record b cs (first + count)

@@ -1,17 +1,20 @@
-ghost use Rattle.std.specs.Prelude.{ℕ, List, Option};
+ghost use Rattle.std.specs.Prelude.{◌≡◌, ℕ, List, Option, length, IfOk};
+ghost use Rattle.class_pages.specs.Fitting.{EachFits};
+ghost use Rattle.view_meaning.specs.Survey.{format_of, record_count};
 
 use crate::write_survey;
-use class_pages::base;
-use edit_ops::read_edit;
-use las_survey::load;
+use class_pages::{Classes, base};
+use edit_ops::{Edit, read_edit};
+use las_survey::{Survey, load};
 use std::alloc::Global;
+use std::process::Abort;
 use std::test::Fail;
 use view_base::{Bytes, OutOfMemory};
 use view_ends::{EndFault, Sink, StillSink, StillSource};
 
-/// A survey of so many records at (0, 0, 5) with this class byte, and four bytes after the points.
-fn survey_bytes(alloc: Global, records: u32, class: u8) -> Result<Bytes, OutOfMemory> {
-    let mut bytes = Bytes::new(alloc);
+/// Appends a survey of so many records at (0, 0, 5) with this class byte, and four bytes after the
+/// points.
+fn append_survey(bytes: &mut Bytes, records: u32, class: u8) -> Result<(), OutOfMemory> {
     bytes.append(b"LASF")?;
     bytes.append(&[0; 20])?;
     bytes.append(&[1, 4])?;
@@ -28,8 +31,7 @@ fn survey_bytes(alloc: Global, records: u32, class: u8) -> Result<Bytes, OutOfMe
             0, 0, 0, 0, 0, 0, 0, 0, 5, 0, 0, 0, 0, 0, 0, class, 0, 0, 0, 0,
         ])?;
     }
-    bytes.append(&[44; 4])?;
-    Ok(bytes)
+    bytes.append(&[44; 4])
 }
 
 /// A sink that takes one byte a call.
@@ -50,22 +52,52 @@ impl Sink for DripSink {
     }
 }
 
+/// The survey of 4000 records of class 2, with all flags.
+fn survey(alloc: Global) -> Result<Survey, Fail> {
+    let mut bytes = Bytes::new(alloc);
+    append_survey(&mut bytes, 4000, 0xE2)?;
+    Ok(load(alloc, &mut StillSource::new(bytes))?)
+}
+
+/// The edit of a line.
+fn edit_of(line: &[u8]) -> Result<Edit, Fail> {
+    Ok(read_edit(line, 0)?)
+}
+
+/// The classes after class 2 got class 6.
+fn edited(rt: &impl Abort, alloc: Global, survey: &Survey) -> Result<Classes, Fail>
+    ensures size { IfOk result (λ classes. length classes ≡ record_count survey.now) }
+    ensures top { IfOk result (λ classes. EachFits (format_of survey.now) classes) }
+{
+    let edit = edit_of(b"edit 0 0 5 0 0 5 2 6")?;
+    assert!(rt; edit.to <= 31);
+    let (classes, _) = base(alloc, survey)?.edited(alloc, survey, &edit)?;
+    Ok(classes)
+}
+
+/// The bytes are those of the survey of 4000 records of class 6, with all flags.
+fn is_saved(rt: &impl Abort, alloc: Global, got: &[u8]) -> Result<(), Fail> {
+    let mut wanted = Bytes::new(alloc);
+    append_survey(&mut wanted, 4000, 0xE6)?;
+    assert_eq!(rt; got.get(390).copied(), Some(0xE6));
+    assert_eq!(rt; got, wanted.as_slice());
+    Ok(())
+}
+
+/// Writes the survey with class 6 to a sink.
+fn write(rt: &impl Abort, alloc: Global, sink: &mut DripSink) -> Result<(), Fail> {
+    let survey = survey(alloc)?;
+    let classes = edited(rt, alloc, &survey)?;
+    write_survey(&survey, &classes, sink)?;
+    Ok(())
+}
+
 /// A sink that takes one byte a call gets all pieces, of which there are more than one.
 #[test]
 fn classes_change_and_their_flags_stay(rt: HostRuntime) -> Result<(), Fail> {
-    let mut source = StillSource::new(survey_bytes(rt.alloc(), 4000, 0xE2)?);
-    let survey = load(rt.alloc(), &mut source).expect(&rt, "a survey");
-    let edit = read_edit(b"edit 0 0 5 0 0 5 2 6", 0).expect(&rt, "an edit");
-    assert!(rt; edit.to <= 31);
-    let (classes, _) = base(rt.alloc(), &survey)?.edited(rt.alloc(), &survey, &edit)?;
     let mut sink = DripSink {
         inner: StillSink::new(rt.alloc()),
     };
-    assert_eq!(rt; write_survey(&survey, &classes, &mut sink), Ok(()));
-    assert_eq!(rt; sink.inner.got().get(390).copied(), Some(0xE6));
-    assert_eq!(rt;
-        sink.inner.got(),
-        survey_bytes(rt.alloc(), 4000, 0xE6)?.as_slice()
-    );
-    Ok(())
+    write(&rt, rt.alloc(), &mut sink)?;
+    is_saved(&rt, rt.alloc(), sink.inner.got())
 }

@@ -2,7 +2,7 @@ ghost use Rattle.std.specs.Prelude.{◌≡◌, ◌≤◌, ◌<◌, OnOk, OnErr, 
 ghost use Rattle.class_pages.specs.Fitting.{EachFits};
 ghost use Rattle.las_write.specs.Points.{HasPoints, saved_records};
 ghost use Rattle.view_ends.specs.Ends.{Rose, Gains, GainsPart};
-ghost use Rattle.view_meaning.specs.Saved.{saved};
+ghost use Rattle.view_meaning.specs.Classes.{saved};
 ghost use Rattle.view_meaning.specs.Survey.{format_of, points_at, points_end, record_count};
 
 use crate::records::copy_records;

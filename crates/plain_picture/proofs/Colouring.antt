@@ -1,9 +1,6 @@
 -- Colours by class, of words one after another.
 use Rattle.std.proofs.Common.{◌≡◌, ◌<◌, ◌-◌, ◌^◌, ◌%◌, ◌==◌, ◌++◌, append_assoc, All, List, length, length-append, get_or, take, ◌+◌, slice_index, ◌∙◌, ℕ, Bool, false, Option, Some, None, IfSome, if◌then◌else◌, ap, sym, subst, arith, refl}
 use Rattle.std.proofs.Math.Seq.{take-append_seam}
-use Rattle.std.specs.Result.{IsOk, OnOk}
-use Rattle.std.specs.declared.result.Result.{Result}
-use Rattle.std.specs.declared.result.Result.TheVariants.{Ok, Err}
 use Rattle.std.proofs.lemmas.Bool.Decides.{nat_tests}
 use Rattle.std.proofs.lemmas.List.{get_or-append-add}
 use Rattle.std.proofs.lemmas.Grind.{flat_map-append}
@@ -28,15 +25,10 @@ colour-class b cs i = refl
 pub word_colour-class : (b cs : List ℕ) (word : ℕ) → (word ≡ 2 ^ 64 - 1 → ⊥) → class_colour (slice_index cs (word % 2 ^ 32)) ≡ word_colour b cs Class word
 word_colour-class b cs word full = sym (ap (shown b cs Class) (record_in-named word full) ∙ colour-class b cs (word % 2 ^ 32))
 
-on_ok : {T E : Type 0} → (r : Result T E) (P : Type 0) → IsOk r → OnOk r P → P
-on_ok (Ok x) P ok holds = holds
-on_ok (Err e) P ok holds = absurd (cc ok)
-
 -- what was appended is the front of a buffer
-pub appended_front : {T E : Type 0} → (r : Result T E) (new old front back : List ℕ) (n : ℕ) → IsOk r → OnOk r (new ≡ old ++ take n (front ++ back)) → n ≡ length front → new ≡ old ++ front
-appended_front r new old front back n ok appended size =
-    on_ok r (new ≡ old ++ take n (front ++ back)) ok appended
-    ∙ ap (λ (l : List ℕ). old ++ l) (ap (λ (k : ℕ). take k (front ++ back)) size ∙ take-append_seam front back)
+pub appended_front : (new old front back : List ℕ) (n : ℕ) → new ≡ old ++ take n (front ++ back) → n ≡ length front → new ≡ old ++ front
+appended_front new old front back n appended size =
+    appended ∙ ap (λ (l : List ℕ). old ++ l) (ap (λ (k : ℕ). take k (front ++ back)) size ∙ take-append_seam front back)
 
 -- one more piece's colours
 pub colours_more : (f : ℕ → List ℕ) (old new colours chunk rest all whole : List ℕ) → new ≡ old ++ colours → colours ≡ flat_map f chunk → all ≡ chunk ++ rest

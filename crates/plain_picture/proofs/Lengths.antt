@@ -27,7 +27,7 @@ unfolding pixel
 length-pixel b cs view x y = length-shown b cs view.colouring (nearest b cs view x y)
 
 -- pieces of one length
-length-flat_map_each : (f : ℕ → List ℕ) (size a n : ℕ) → ((k : ℕ) → length (f k) ≡ size) → length (flat_map f (range_with_len a n)) ≡ n * size
+pub length-flat_map_each : (f : ℕ → List ℕ) (size a n : ℕ) → ((k : ℕ) → length (f k) ≡ size) → length (flat_map f (range_with_len a n)) ≡ n * size
 length-flat_map_each f size a zero each = let none : 0 ≡ 0 * size = omega arith in none
 length-flat_map_each f size a (suc n) each =
     let next : size + n * size ≡ suc n * size = grind arith in

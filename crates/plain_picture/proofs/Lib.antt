@@ -1,3 +1,4 @@
 pub mod Colouring
 pub mod Lengths
 pub mod Plain
+pub mod Shown

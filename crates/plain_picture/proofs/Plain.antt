@@ -5,8 +5,8 @@ use Rattle.std.proofs.lemmas.Bool.Decides.{nat_tests}
 use Rattle.std.proofs.lemmas.List.{get_or_default}
 use Rattle.std.proofs.Math.Nat.{mod-lt, div-add-mod', mul-le-mul_right}
 use Rattle.view_base.specs.declared.place.Point.{Point}
-use Rattle.view_meaning.specs.Survey.{record_length, record_at, record_count, format_of, point_of, i32_at}
-use Rattle.view_meaning.specs.Classes.{passes, top_class}
+use Rattle.view_meaning.specs.Survey.{record_length, record_at, record_count, point_of, i32_at}
+use Rattle.view_meaning.specs.Classes.{passes}
 use Rattle.view_meaning.specs.Camera as meaning
 use Rattle.view_meaning.specs.Camera.{Lens, spot}
 use Rattle.view_meaning.specs.Picture.{View, Shows, by_class}
@@ -16,18 +16,13 @@ use Rattle.view_meaning.proofs.Passing.{passes-all}
 use Rattle.view_meaning.proofs.Plotting.{IsFrameBelow, frame_skips, frame_lowers}
 use Rattle.int_camera.specs.declared.projection.Spot.{Spot}
 use Rattle.int_camera.specs.Seen.{seen}
-use Rattle.class_pages.specs.Fitting.{EachFits}
 use Rattle.plain_picture.specs.Passing.{EveryPasses}
 use Rattle.plain_picture.specs.Plotted.{plotted}
 use Rattle.plain_picture.specs.Names.{NamesOne}
 
-top_class_below : (format class : ℕ) → class ≤ top_class format → class < 256
-top_class_below format class small = grind (arith, nat_tests)
-
--- a view by class shows every record under classes that fit the format
-pub every_passes : (b cs : List ℕ) (lens : Lens) → length cs ≡ record_count b → EachFits (format_of b) cs → EveryPasses b cs (by_class lens)
-every_passes b cs lens size fits = λ i counts.
-    passes-all b cs (by_class lens).filter i refl refl (top_class_below (format_of b) (get_or cs i 0) (fits i 0 (omega (arith, counts, size))))
+-- a view by class shows every record, since each class is a byte
+pub every_passes : (b cs : List ℕ) (lens : Lens) → ((i : ℕ) → get_or cs i 0 < 256) → EveryPasses b cs (by_class lens)
+every_passes b cs lens bytes = λ i counts. passes-all b cs (by_class lens).filter i refl refl (bytes i)
 
 plotted_at : (b cs : List ℕ) (lens : Lens) (n : ℕ) (words : List ℕ) (o : Option meaning.Spot) → passes b cs (by_class lens).filter n ≡ true → n < 2 ^ 32 → lens.far < 2 ^ 32 - 1
     → spot lens (point_of b n) ≡ o → IsFrameBelow n b cs (by_class lens) words → IsFrameBelow (suc n) b cs (by_class lens) (plotted words (seen lens o) n)

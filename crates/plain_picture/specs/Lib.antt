@@ -1,3 +1,4 @@
 pub mod Names
 pub mod Passing
 pub mod Plotted
+pub mod Shown

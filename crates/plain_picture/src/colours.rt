@@ -16,13 +16,14 @@ const CHUNK: usize = 1024;
 pub(crate) fn append_colours(words: &[u64], classes: &[u8], out: &mut Bytes)
     requires room { 3 * length words.now ≤ out.old.spare }
     requires names { All (NamesOne (length classes.now)) words.now }
-    ensures { (b : List ℕ) → out.new.items ≡ out.old.items ++ flat_map (word_colour b classes.now Class) words.now }
+    ensures bytes { (i : ℕ) → slice_index classes.now i < 256 }
+    ensures colours { (b : List ℕ) → out.new.items ≡ out.old.items ++ flat_map (word_colour b classes.now Class) words.now }
 {
     let mut colours = [0; 3 * CHUNK];
     for chunk in words.chunks(CHUNK) {
         let bytes = 3 * chunk.len();
         colour_pixels(&mut colours[..bytes], chunk, classes);
-        out.append(&colours[..bytes]).unwrap();
+        out.append_within(&colours[..bytes]);
     }
 }
 

@@ -1,8 +1,8 @@
-ghost use Rattle.std.specs.Prelude.{◌≡◌, ◌+◌, ◌*◌, ◌≤◌, ◌++◌, OnOk, OnErr, length};
+ghost use Rattle.std.specs.Prelude.{◌≡◌, ◌+◌, ◌*◌, ◌≤◌, ◌++◌, OnOk, OnErr, length, drop};
 ghost use Rattle.std.specs.Arc.{arc_value};
-ghost use Rattle.class_pages.specs.Fitting.{EachFits};
+ghost use Rattle.plain_picture.specs.Shown.{ShowsNearest};
 ghost use Rattle.view_meaning.specs.Picture.{by_class, picture, ppm_header};
-ghost use Rattle.view_meaning.specs.Survey.{format_of, record_count};
+ghost use Rattle.view_meaning.specs.Survey.{record_count};
 
 use crate::colours::append_colours;
 use crate::frame::nearest_words;
@@ -37,15 +37,18 @@ pub fn picture<B: Beside>(
 ) -> Result<(), OutOfMemory>
     requires workers { (1 ≤ scene.now.workers) × (scene.now.workers ≤ 64) }
     requires records { length classes.now ≡ record_count (arc_value scene.now.survey) }
-    requires top { EachFits (format_of (arc_value scene.now.survey)) classes.now }
     requires by_class { view.now ≡ by_class view.now.camera }
     ensures drawn { OnOk result (out.new.items ≡ out.old.items ++ picture (arc_value scene.now.survey) classes.now view.now) }
-    ensures size { OnOk result (length (picture (arc_value scene.now.survey) classes.now view.now) ≡ length (ppm_header view.now.camera.width view.now.camera.height) + 3 * (view.now.camera.width * view.now.camera.height)) }
+    ensures size { OnOk result (length (picture (arc_value scene.now.survey) classes.now view.now)
+        ≡ length (ppm_header view.now.camera.width view.now.camera.height)
+        + 3 * (view.now.camera.width * view.now.camera.height)) }
+    ensures nearest { OnOk result (ShowsNearest (arc_value scene.now.survey) classes.now view.now (drop (length out.old.items) out.new.items)) }
     ensures refused { OnErr result (out.new.items ≡ out.old.items) }
 {
+    let classes = classes.as_slice();
     let words = nearest_words(alloc, &*scene.survey, &view.camera)?;
     out.reserve(HEADER + 3 * words.len())?;
     ppm_header(view.camera.width(), view.camera.height(), out);
-    append_colours(words.as_slice(), classes.as_slice(), out);
+    append_colours(words.as_slice(), classes, out);
     Ok(())
 }

@@ -30,6 +30,7 @@ fn digits(number: u32) -> u64
 }
 
 /// Appends the header of a picture. It fits in the room, so it takes no memory.
+#[tactic(auto, using(crate::proofs::Lengths::length_decimal_side), unfolding(view_meaning::specs::Picture::ppm_header))]
 pub fn ppm_header(width: u32, height: u32, out: &mut Bytes)
     requires width { (1 ≤ width) × (width ≤ 4096) }
     requires height { (1 ≤ height) × (height ≤ 4096) }
@@ -37,30 +38,9 @@ pub fn ppm_header(width: u32, height: u32, out: &mut Bytes)
     ensures appended { out.new.items ≡ out.old.items ++ ppm_header width height }
     ensures room { out.old.spare ≤ out.new.spare + HEADER }
 {
-    append(out, b"P6\n");
-    append_number(out, width);
-    append(out, b" ");
-    append_number(out, height);
-    append(out, b"\n255\n");
-}
-
-/// Appends the decimal digits of a number that has at most four.
-fn append_number(out: &mut Bytes, number: u32)
-    requires small { number ≤ 4096 }
-    requires room { 4 ≤ out.old.spare }
-    ensures appended { out.new.items ≡ out.old.items ++ decimal number }
-    ensures room { out.old.spare ≤ out.new.spare + 4 }
-{
-    let mut digits = Buffer::new();
-    append(out, digits.format(number).as_bytes());
-}
-
-/// Appends a piece that fits in the room.
-fn append(out: &mut Bytes, piece: &[u8])
-    requires { length piece.now ≤ out.old.spare }
-    ensures appended { out.new.items ≡ out.old.items ++ piece.now }
-    ensures room { out.old.spare ≤ out.new.spare + length piece.now }
-{
-    let done = out.append(piece);
-    done.unwrap();
+    out.append_within(b"P6\n");
+    out.append_decimal(u64::from(width));
+    out.append_within(b" ");
+    out.append_decimal(u64::from(height));
+    out.append_within(b"\n255\n");
 }

@@ -5,8 +5,7 @@ use Rattle.std.proofs.lemmas.List.{append-nil, take_all, take_at}
 use Rattle.view_meaning.specs.Survey.{format_of}
 use Rattle.view_meaning.specs.Classes as meaning
 use Rattle.view_meaning.specs.Picture.{View as PictureView, picture}
-use Rattle.view_meaning.specs.Saved.{saved}
-use Rattle.class_pages.specs.Changed.{changed}
+use Rattle.view_meaning.specs.Classes.{changed, saved}
 use Rattle.class_pages.specs.Fitting.{EachFits}
 use Rattle.view_lines.specs.Command.{refusal_code}
 use Rattle.view_lines.specs.declared.command.Command.TheVariants.{View, Edit, Save}

@@ -10,8 +10,7 @@ use Rattle.view_ends.proofs.Pieces.{gains_more}
 use Rattle.view_meaning.specs.Survey.{format_of, points_end, record_count}
 use Rattle.view_meaning.specs.Classes as meaning
 use Rattle.view_meaning.specs.Picture.{View as PictureView, picture, ppm_header}
-use Rattle.view_meaning.specs.Saved.{saved}
-use Rattle.class_pages.specs.Changed.{changed}
+use Rattle.view_meaning.specs.Classes.{changed, saved}
 use Rattle.class_pages.specs.Fitting.{EachFits}
 use Rattle.class_pages.proofs.Fitting.{length-classes}
 use Rattle.las_write.proofs.Fronts.{part_of_first, part_of_second}
@@ -94,7 +93,7 @@ answered_edit b at old mid new edit made count text before after result is sound
 save-parts : (b at file : List ℕ) (mid new : Talk) (size : ℕ) (start : List ℕ) → at ≡ b → file ≡ at → points_end at ≤ length at → Adds b mid new (Ok Save) → new.newest ≡ mid.newest → new.classes ≡ mid.classes
     → size ≡ length file → start ≡ head (codes "FILE") mid.newest size → start ++ saved at new.classes ≡ last_reply b new (Ok Save)
 save-parts b at file mid new size start is all whole added newest classes told begins =
-    let long : size ≡ length (saved at new.classes) = told ∙ ap length all ∙ sym (saved-length at new.classes whole) in
+    let long : size ≡ length (saved at new.classes) = told ∙ ap length all ∙ sym (saved-length at new.classes) in
     ap (λ (l : List ℕ). l ++ saved at new.classes) (begins ∙ ap (λ (n : ℕ). head (codes "FILE") mid.newest n) long)
     ∙ ap (λ (l : List ℕ). head (codes "FILE") mid.newest (length (saved l new.classes)) ++ saved l new.classes) is
     ∙ sym (last_reply-save b mid new added newest)

@@ -6,10 +6,8 @@ use Rattle.std.proofs.Math.Seq.{take-append-add}
 use Rattle.view_ends.specs.Ends.{Gains, GainsPart}
 use Rattle.view_meaning.specs.Classes as meaning
 use Rattle.view_meaning.specs.Survey.{format_of}
-use Rattle.view_meaning.specs.Classes.{classes}
+use Rattle.view_meaning.specs.Classes.{changed, classes, saved}
 use Rattle.view_meaning.specs.Picture.{picture}
-use Rattle.view_meaning.specs.Saved.{saved}
-use Rattle.class_pages.specs.Changed.{changed}
 use Rattle.view_lines.specs.declared.command.Command.TheVariants.{View, Edit, Save}
 use Rattle.version_store.specs.declared.history.Entry.{Entry}
 use Rattle.sessions.specs.declared.talk.Talk.{Talk}

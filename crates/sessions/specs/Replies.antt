@@ -1,10 +1,8 @@
 -- What a session answers.
 use Rattle.std.specs.Prelude.{ℕ, ◌-◌, List, ◌++◌, length, take, flat_map, zip, codes, decimal, Ok, Err}
 use Rattle.view_meaning.specs.Classes as meaning
-use Rattle.view_meaning.specs.Classes.{classes}
+use Rattle.view_meaning.specs.Classes.{changed, classes, saved}
 use Rattle.view_meaning.specs.Picture.{picture}
-use Rattle.view_meaning.specs.Saved.{saved}
-use Rattle.class_pages.specs.Changed.{changed}
 use Rattle.view_lines.specs.Command.{refusal_code}
 use Rattle.view_lines.specs.declared.command.Command.TheVariants.{View, Edit, Save}
 use Rattle.sessions.specs.Lines.{Item}

@@ -62,13 +62,21 @@ Got b edits items marks old new _ = Gains old (replies b edits items marks) new
 -- make under its marks; no mark is below an earlier one, and none of a command is older than what was there at
 -- the start; and its output got the replies
 pub record Served (b : List ℕ) (h0 h : List Entry) (who : ℕ) (left old new : Option (List ℕ)) (marks : List ℕ) (reason : reason.Reason) (taken : ℕ) : Type 0 where
+  -- the bytes of the input, which are the source's where it tells them
   pub input : List ℕ
+  -- the items that were processed
   pub items : List Item
   pub input_is : IfSome left (λ all. all ≡ input)
+  -- they are ones that the input, the bytes taken and the reason of the end allow, and no others as many are
   pub processed : Processed (format_of b) input taken reason items
   pub one : (text : List ℕ) (these those : List Item) → length these ≡ length those → Processed (format_of b) text taken reason these → Processed (format_of b) text taken reason those → these ≡ those
+  -- the history grew at its end
   pub begins : take (length h0) h ≡ h0
+  -- the new entries by this caller are those that the items make, under these marks
   pub makes : Makes 0 items marks (entries_by who (drop (length h0) (numbered 0 h)))
+  -- marks never fall
   pub rising : (j k : ℕ) → j ≤ k → k < length marks → slice_index marks j ≤ slice_index marks k
+  -- a command's mark is no older than the start
   pub newer : (k : ℕ) (command : Command) → slice_get items k ≡ Some (Ok command) → length (journal h0) ≤ slice_index marks k
+  -- the output got the replies
   pub got : Got b (journal h) items marks old new reason

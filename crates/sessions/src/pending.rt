@@ -32,8 +32,7 @@ impl Pending {
         if self.long || part.len() > LINE - self.bytes.len() {
             self.long = true;
         } else {
-            let done = self.bytes.append(part);
-            done.unwrap();
+            self.bytes.append_within(part);
         }
     }
 

@@ -40,9 +40,9 @@ impl Talk {
         ensures newest { self.new.newest ≡ self.old.newest }
         ensures classes { self.new.classes ≡ self.old.classes }
     {
-        note(&mut self.history, What::Pin);
-        note(&mut self.history, What::Unpin(self.newest));
-        mark(&mut self.marks, self.newest);
+        self.history.push_within(by_one(What::Pin));
+        self.history.push_within(by_one(What::Unpin(self.newest)));
+        self.marks.push_within(self.newest);
     }
 
     /// Publishes an edit that gives these classes, with its mark. There is room.
@@ -54,10 +54,10 @@ impl Talk {
         ensures newest { self.new.newest ≡ self.old.newest + 1 }
         ensures classes { self.new.classes ≡ classes }
     {
-        note(&mut self.history, What::Publish(*edit));
+        self.history.push_within(by_one(What::Publish(*edit)));
         self.classes = classes;
         self.newest = next_version(self.newest, self.history.len());
-        mark(&mut self.marks, self.newest);
+        self.marks.push_within(self.newest);
     }
 
     /// Marks a line that asks for nothing. There is room.
@@ -69,7 +69,7 @@ impl Talk {
         ensures classes { self.new.classes ≡ self.old.classes }
     {
         let last = last_mark(self.marks.as_slice());
-        mark(&mut self.marks, last);
+        self.marks.push_within(last);
     }
 }
 
@@ -91,21 +91,9 @@ fn last_mark(marks: &[Version]) -> Version
     }
 }
 
-/// Appends an entry, for which there is room.
-fn note(history: &mut History, what: What)
-    requires { 1 ≤ history.old.spare }
-    ensures noted { history.new.items ≡ history.old.items ++ by_one what ∷ [] }
-    ensures room { history.old.spare ≤ history.new.spare + 1 }
+/// An entry of the one session that there is.
+fn by_one(what: What) -> Entry
+    ensures { result ≡ by_one what }
 {
-    let done = history.push(Entry { who: WHO, what });
-    done.unwrap();
-}
-
-/// Appends a mark, for which there is room.
-fn mark(marks: &mut Marks, version: Version)
-    requires { 1 ≤ marks.old.spare }
-    ensures { marks.new.items ≡ marks.old.items ++ version ∷ [] }
-{
-    let done = marks.push(version);
-    done.unwrap();
+    Entry { who: WHO, what }
 }

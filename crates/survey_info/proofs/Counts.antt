@@ -1,6 +1,6 @@
 -- How many of the first records each class has, with one record more.
 use Rattle.std.proofs.Common.{◌≡◌, ◌≢◌, ℕ, ◌+◌, ◌<◌, ◌≤◌, ◌==◌, Bool, true, false, cond, List, [], length, get_or, set, map, replicate, take, drop, refl, sym, ◌∙◌, ap, arith}
-use Rattle.std.specs.List.{range_with_len}
+use Rattle.std.specs.List.{range_with_len, count_by}
 use Rattle.std.proofs.lemmas.Bool.Decides.{nat_tests}
 use Rattle.std.proofs.lemmas.List.{ext_get_or, length-set, get_or-set_same, get_or-set_other, get_or-replicate, length-replicate}
 use Rattle.std.proofs.lemmas.List.FromFn.{get_or-map-range_with_len, length-map-range_with_len, sum_by-map-range_with_len_more}
@@ -8,7 +8,11 @@ use Rattle.std.proofs.lemmas.List.Sums.{count_by-le-length}
 use Rattle.view_meaning.specs.Survey.{u8_at, record_count, record_length, record_at, format_of, class_place}
 use Rattle.view_meaning.specs.Classes.{class_of, class_at, classes}
 use Rattle.las_points.proofs.Fields.{class_byte-from_part}
-use Rattle.survey_info.specs.Summary.{count_of, class_counts}
+use Rattle.survey_info.specs.Text.{class_counts}
+
+-- how many of some classes are a given one
+abbrev pub count_of : List ℕ → ℕ → ℕ
+count_of cs class = count_by (λ c. c == class) cs
 
 -- the classes of the first n records
 abbrev classes_below : List ℕ → ℕ → List ℕ

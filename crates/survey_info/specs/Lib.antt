@@ -1,2 +1,2 @@
-pub mod Summary
+pub mod Corners
 pub mod Text

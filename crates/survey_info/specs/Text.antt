@@ -1,11 +1,28 @@
--- The info text of a survey.
-use Rattle.std.specs.Prelude.{ℕ, ℤ, ◌==◌, if◌then◌else◌, List, [], ◌++◌, length, slice_index, codes, decimal, Option, Some, None}
+-- The info text of a survey: its header's fields, the box of its records, and how many of them each class has.
+use Rattle.std.specs.Prelude.{ℕ, ℤ, ◌==◌, if◌then◌else◌, List, [], ◌++◌, length, slice_index, map, fold, codes, decimal, Option, Some, None}
 use Rattle.std.specs.Fmt.{signed_decimal}
-use Rattle.std.specs.List.{range_with_len, flat_map}
+use Rattle.std.specs.Int.{int_min, int_max}
+use Rattle.std.specs.List.{range_with_len, flat_map, count_by}
 use Rattle.view_base.specs.declared.place.Point.{Point}
 use Rattle.view_base.specs.declared.place.Box3.{Box3}
-use Rattle.view_meaning.specs.Survey.{u8_at, header_size, vlr_count, format_of, record_length, record_count, evlr_count}
-use Rattle.survey_info.specs.Summary.{area_of, class_counts}
+use Rattle.view_meaning.specs.Survey.{u8_at, header_size, vlr_count, format_of, record_length, record_count, evlr_count, point_of}
+use Rattle.view_meaning.specs.Classes.{classes}
+
+-- the least or the greatest, by int_min or int_max, of the numbers of the first n records, of one at least
+unfoldable pub extreme : (ℤ → ℤ → ℤ) → (ℕ → ℤ) → ℕ → ℤ
+extreme pick f n = fold pick (f 0) (map f (range_with_len 0 n))
+
+-- the least or the greatest corner of the first n records
+abbrev pub corner : (ℤ → ℤ → ℤ) → List ℕ → ℕ → Point
+corner pick b n = record { x = extreme pick (λ i. (point_of b i).x) n; y = extreme pick (λ i. (point_of b i).y) n; z = extreme pick (λ i. (point_of b i).z) n }
+
+-- the box from the least to the greatest corner of all records, where there are records
+unfoldable pub area_of : List ℕ → Option Box3
+area_of b = if record_count b == 0 then None else Some (record { min = corner int_min b (record_count b); max = corner int_max b (record_count b) })
+
+-- how many records of a file each class has
+unfoldable pub class_counts : List ℕ → List ℕ
+class_counts b = map (λ class. count_by (λ c. c == class) (classes b [])) (range_with_len 0 256)
 
 -- a line of a label and a number
 unfoldable pub line : List ℕ → ℕ → List ℕ

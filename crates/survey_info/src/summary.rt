@@ -1,5 +1,7 @@
 ghost use Rattle.std.specs.Prelude.{◌≡◌, replicate};
-ghost use Rattle.survey_info.specs.Summary.{area_of, class_counts, lesser, greater};
+ghost use Rattle.std.specs.Int.{int_min, int_max};
+ghost use Rattle.survey_info.specs.Corners.{picked};
+ghost use Rattle.survey_info.specs.Text.{area_of, class_counts};
 
 use class_bits::class_of;
 use las_points::{class_place, xyz};
@@ -52,7 +54,7 @@ fn tally(survey: &Survey, counts: &mut [u32]) -> Option<Box3>
 
 /// The lesser of two places in each coordinate.
 fn lesser(p: Point, q: Point) -> Point
-    ensures { result ≡ lesser p q }
+    ensures { result ≡ picked int_min p q }
 {
     Point {
         x: p.x.min(q.x),
@@ -63,7 +65,7 @@ fn lesser(p: Point, q: Point) -> Point
 
 /// The greater of two places in each coordinate.
 fn greater(p: Point, q: Point) -> Point
-    ensures { result ≡ greater p q }
+    ensures { result ≡ picked int_max p q }
 {
     Point {
         x: p.x.max(q.x),

@@ -3,7 +3,6 @@ ghost use Rattle.std.specs.Fmt.{signed_decimal};
 ghost use Rattle.survey_info.specs.Text.{line, field_lines, coordinate_text, corner_text, box_line, class_line, class_lines, info_text};
 
 use crate::summary::Summary;
-use itoa::Buffer;
 use las_survey::Survey;
 use view_base::{Box3, Bytes, OutOfMemory, Point};
 
@@ -59,26 +58,16 @@ fn append_fields(out: &mut Bytes, survey: &Survey)
 }
 
 /// Appends a line of a label and a number.
-#[tactic(auto, unfolding(crate::specs::Text::line))]
+#[tactic(auto, using(view_base::proofs::Decimals::length_decimal), unfolding(crate::specs::Text::line))]
 fn append_line(out: &mut Bytes, label: &[u8], number: u64)
     requires label { length label.now ≤ 8 }
     requires room { length label.now + 21 ≤ out.old.spare }
     ensures appended { out.new.items ≡ out.old.items ++ line label.now number }
     ensures room { out.old.spare ≤ out.new.spare + (length label.now + 21) }
 {
-    append(out, label);
-    append_number(out, number);
-    append(out, b"\n");
-}
-
-/// Appends a number in decimal: at most 20 bytes.
-fn append_number(out: &mut Bytes, number: u64)
-    requires { 20 ≤ out.old.spare }
-    ensures appended { out.new.items ≡ out.old.items ++ decimal number }
-    ensures room { out.old.spare ≤ out.new.spare + 20 }
-{
-    let mut digits = Buffer::new();
-    append(out, digits.format(number).as_bytes());
+    out.append_within(label);
+    out.append_decimal(number);
+    out.append_within(b"\n");
 }
 
 /// Appends the line of a box, if there is one.
@@ -89,10 +78,10 @@ fn append_box(out: &mut Bytes, area: Option<Box3>)
     ensures room { out.old.spare ≤ out.new.spare + BOX }
 {
     if let Some(area) = area {
-        append(out, b"box");
+        out.append_within(b"box");
         append_corner(out, area.min);
         append_corner(out, area.max);
-        append(out, b"\n");
+        out.append_within(b"\n");
     }
 }
 
@@ -109,14 +98,14 @@ fn append_corner(out: &mut Bytes, corner: Point)
 }
 
 /// Appends a space and a coordinate: at most 12 bytes.
+#[tactic(auto, using(view_base::proofs::Decimals::length_signed_decimal))]
 fn append_coordinate(out: &mut Bytes, number: i32)
     requires { 12 ≤ out.old.spare }
     ensures appended { out.new.items ≡ out.old.items ++ coordinate_text number }
     ensures room { out.old.spare ≤ out.new.spare + 12 }
 {
-    let mut digits = Buffer::new();
-    append(out, b" ");
-    append(out, digits.format(number).as_bytes());
+    out.append_within(b" ");
+    out.append_signed(i64::from(number));
 }
 
 /// Appends the lines of the classes that have records.
@@ -131,7 +120,7 @@ fn append_classes(out: &mut Bytes, counts: &[u32])
 }
 
 /// Appends the line of a class, where it has records.
-#[tactic(auto, unfolding(crate::specs::Text::class_line))]
+#[tactic(auto, using(view_base::proofs::Decimals::length_decimal), unfolding(crate::specs::Text::class_line))]
 fn append_class(out: &mut Bytes, class: u64, count: u32)
     requires class { class ≤ 255 }
     requires room { LINE ≤ out.old.spare }
@@ -139,18 +128,8 @@ fn append_class(out: &mut Bytes, class: u64, count: u32)
     ensures room { out.old.spare ≤ out.new.spare + LINE }
 {
     if count > 0 {
-        append(out, b"class ");
-        append_number(out, class);
+        out.append_within(b"class ");
+        out.append_decimal(class);
         append_line(out, b" ", u64::from(count));
     }
-}
-
-/// Appends a piece that fits in the room.
-fn append(out: &mut Bytes, piece: &[u8])
-    requires { length piece.now ≤ out.old.spare }
-    ensures appended { out.new.items ≡ out.old.items ++ piece.now }
-    ensures room { out.old.spare ≤ out.new.spare + length piece.now }
-{
-    let done = out.append(piece);
-    done.unwrap();
 }

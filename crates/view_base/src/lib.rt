@@ -3,12 +3,16 @@
 #![tactic(auto)]
 
 mod colour;
+mod cursor;
+mod kinds;
 mod listing;
 mod memory;
 mod place;
 mod text;
 
 pub use colour::{Colouring, Rgb};
+pub use cursor::{Cursor, Form, WordKind, WordsOf};
+pub use kinds::{DigitsWord, NumberWord};
 pub use listing::{Bytes, Listing, Words};
 pub use memory::OutOfMemory;
 pub use place::{Box3, Point};

@@ -1,6 +1,11 @@
-ghost use Rattle.std.specs.Prelude.{◌≡◌, ℕ, ◌+◌, ◌-◌, ◌<◌, ◌≤◌, [], ◌∷◌, ◌++◌, List, Some, slice_get, length, take, IsOk, OnOk, OnErr};
+ghost use Rattle.std.specs.Prelude.{◌≡◌, ℕ, ◌+◌, ◌-◌, ◌<◌, ◌≤◌, [], ◌∷◌, ◌++◌, List, Some, slice_get, length, take, drop, replicate, decimal, IsOk, OnOk, OnErr};
+ghost use Rattle.std.specs.Borrow.{Array, Lends, sem};
+ghost use Rattle.std.specs.Fmt.{signed_decimal};
+ghost use Rattle.view_base.specs.Listed.{with_tail};
+ghost use Rattle.view_base.specs.contracts.listing.Listing.{the_row};
 
 use crate::memory::OutOfMemory;
+use itoa::Buffer;
 use std::alloc::Global;
 use std::marker::Model;
 
@@ -51,20 +56,33 @@ impl<T: Drop> Listing<T> {
         self.list.as_slice()
     }
 
-    /// Appends one item. A refusal is want of memory and leaves the items as they were.
+    /// Appends one item. A refusal is want of memory and leaves the list as it was.
     pub fn push(&mut self, item: T) -> Result<(), OutOfMemory>
         ensures pushed { OnOk result (self.new.items ≡ self.old.items ++ item ∷ []) }
-        ensures refused { OnErr result (self.new.items ≡ self.old.items) }
+        ensures refused { OnErr result (self.new ≡ self.old) }
         ensures room { 1 ≤ self.old.spare → IsOk result }
         ensures spare { self.old.spare ≤ self.new.spare + 1 }
     {
-        self.list.push(item)?;
+        self.reserve(1)?;
+        self.push_within(item);
         Ok(())
     }
 
-    /// Makes room for `more` further items. A refusal is want of memory.
+    /// Appends one item within the room that the list has.
+    pub fn push_within(&mut self, item: T)
+        requires { 1 ≤ self.old.spare }
+        ensures pushed { self.new.items ≡ self.old.items ++ item ∷ [] }
+        ensures spare { self.old.spare ≤ self.new.spare + 1 }
+    {
+        self.list.push(item).unwrap();
+    }
+
+    /// Makes room for `more` further items. A refusal is want of memory and leaves the list as it
+    /// was.
     pub fn reserve(&mut self, more: usize) -> Result<(), OutOfMemory>
         ensures same { self.new.items ≡ self.old.items }
+        ensures refused { OnErr result (self.new ≡ self.old) }
+        ensures enough { more ≤ self.old.spare → IsOk result }
         ensures room { OnOk result (more ≤ self.new.spare) }
         ensures kept { self.old.spare ≤ self.new.spare }
     {
@@ -97,15 +115,65 @@ impl<T: Drop> Listing<T> {
 }
 
 impl<T: Copy> Listing<T> {
-    /// Appends a whole piece. A refusal is want of memory and leaves the items as they were.
+    /// Appends a whole piece. A refusal is want of memory and leaves the list as it was.
     pub fn append(&mut self, piece: &[T]) -> Result<(), OutOfMemory>
         ensures appended { OnOk result (self.new.items ≡ self.old.items ++ piece.now) }
-        ensures refused { OnErr result (self.new.items ≡ self.old.items) }
+        ensures refused { OnErr result (self.new ≡ self.old) }
         ensures room { length piece.now ≤ self.old.spare → IsOk result }
         ensures spare { self.old.spare ≤ self.new.spare + length piece.now }
     {
-        self.list.extend_from_slice(piece)?;
+        self.reserve(piece.len())?;
+        self.append_within(piece);
         Ok(())
+    }
+
+    /// Appends a whole piece within the room that the list has.
+    pub fn append_within(&mut self, piece: &[T])
+        requires { length piece.now ≤ self.old.spare }
+        ensures appended { self.new.items ≡ self.old.items ++ piece.now }
+        ensures spare { self.old.spare ≤ self.new.spare + length piece.now }
+    {
+        self.list.extend_from_slice(piece).unwrap();
+    }
+
+    /// The items from a place on, to be written in place. Afterwards the list has what the slice
+    /// was left with, and its room stays.
+    pub fn tail_mut(&mut self, from: usize) -> &mut [T]
+        requires { from ≤ length self.old.items }
+        ensures* writes_back { sem 𝓛 (Lends (the_row T.row) (Array T.row 0) self.entry result (with_tail self.old from)) }
+        ensures tail { result.now ≡ drop from self.old.items }
+    {
+        self.list.slice_mut(from..)
+    }
+
+    /// Appends `count` copies of an item within the room that the list has.
+    pub fn extend_by(&mut self, count: usize, item: T)
+        requires { count ≤ self.old.spare }
+        ensures extended { self.new.items ≡ self.old.items ++ replicate count item }
+        ensures spare { self.old.spare ≤ self.new.spare + count }
+    {
+        self.list.resize(self.list.len() + count, item).unwrap();
+    }
+}
+
+impl Listing<u8> {
+    /// Appends the decimal digits of a number within the room that the list has.
+    pub fn append_decimal(&mut self, number: u64)
+        requires { length (decimal number) ≤ self.old.spare }
+        ensures appended { self.new.items ≡ self.old.items ++ decimal number }
+        ensures spare { self.old.spare ≤ self.new.spare + length (decimal number) }
+    {
+        self.append_within(Buffer::new().format(number).as_bytes());
+    }
+
+    /// Appends the decimal digits of a signed number, after a `-` where it is below 0, within the
+    /// room that the list has.
+    pub fn append_signed(&mut self, number: i64)
+        requires { length (signed_decimal number) ≤ self.old.spare }
+        ensures appended { self.new.items ≡ self.old.items ++ signed_decimal number }
+        ensures spare { self.old.spare ≤ self.new.spare + length (signed_decimal number) }
+    {
+        self.append_within(Buffer::new().format(number).as_bytes());
     }
 }
 
@@ -114,3 +182,54 @@ pub type Bytes = Listing<u8>;
 
 /// A growing list of 64-bit words.
 pub type Words = Listing<u64>;
+
+#[cfg(test)]
+mod tests {
+    use super::*;
+    use std::test::Fail;
+
+    /// Overwrites the items from a place on.
+    fn overwrite(list: &mut Bytes, from: usize, item: u8)
+        requires { from ≤ length list.old.items }
+        ensures items { list.new.items ≡ take from list.old.items ++ replicate (length list.old.items - from) item }
+        ensures spare { list.new.spare ≡ list.old.spare }
+    {
+        list.tail_mut(from).fill(item);
+    }
+
+    /// Appends a bit of each kind within the room.
+    #[tactic(auto, using(crate::proofs::Decimals::length_decimal, crate::proofs::Decimals::length_signed_decimal))]
+    fn append_each(list: &mut Bytes, below: i32, number: u64)
+        requires { 50 ≤ list.old.spare }
+    {
+        list.append_within(b"edit ");
+        list.append_signed(i64::from(below));
+        list.push_within(b' ');
+        list.append_decimal(number);
+        list.extend_by(3, b'.');
+    }
+
+    #[test]
+    fn a_list_takes_what_it_has_room_for(rt: HostRuntime) -> Result<(), Fail> {
+        let mut list = Bytes::new(rt.alloc());
+        list.reserve(50)?;
+        append_each(&mut list, -2147483648, 18446744073709551615);
+        assert_eq!(rt;
+            list.as_slice(),
+            b"edit -2147483648 18446744073709551615...".as_slice()
+        );
+        Ok(())
+    }
+
+    #[test]
+    fn a_tail_is_written_in_place(rt: HostRuntime) -> Result<(), Fail> {
+        let mut list = Bytes::from_vec(Vec::from_slice(rt.alloc(), b"abcdef")?);
+        overwrite(&mut list, 4, b'x');
+        assert_eq!(rt; list.as_slice(), b"abcdxx".as_slice());
+        overwrite(&mut list, 6, b'y');
+        assert_eq!(rt; list.as_slice(), b"abcdxx".as_slice());
+        list.tail_mut(1)[2] = b'z';
+        assert_eq!(rt; list.as_slice(), b"abczxx".as_slice());
+        Ok(())
+    }
+}

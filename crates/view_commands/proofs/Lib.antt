@@ -1,8 +1,8 @@
-pub mod Endings
+pub mod Counts
+pub mod Written
 pub mod Rows
-pub mod Taken
 pub mod Lines
 pub mod JournalText
-pub mod Counts
+pub mod Opened
 pub mod Runs
 pub mod OneSession

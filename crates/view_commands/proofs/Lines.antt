@@ -1,6 +1,6 @@
 -- The names of a `serve` with one pair.
 use Rattle.std.proofs.Common.{◌≡◌, ◌≢◌, ℕ, List, length, arith}
-use Rattle.view_text.specs.ViewWords.{word_at}
+use Rattle.view_base.specs.Fitting.{word_at}
 use Rattle.view_words.specs.CommandLine.{IsLine}
 use Rattle.view_words.specs.declared.row.Row.TheVariants.{Serve}
 use Rattle.view_words.proofs.Names.{read_once, written_once, kind_at-serve, kind_at-in, kind_at-out}

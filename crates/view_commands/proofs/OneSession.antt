@@ -1,172 +1,95 @@
 -- A `serve` with one session, put together of its steps.
-use Rattle.std.proofs.Common.{◌≡◌, ◌≢◌, ℕ, ◌<◌, ◌≤◌, List, [], ◌∷◌, Option, Some, None, Bool, length, refl, sym, ◌∙◌, ap, subst, arith, inl, inr}
-use Rattle.std.specs.Prelude.{IsTrue, IsSome, IfSome}
-use Rattle.las_survey.specs.Fault.{fault_of}
-use Rattle.las_survey.specs.declared.fault.SurveyFault.{SurveyFault}
-use Rattle.las_survey.specs.declared.loading.TheConstants as load
-use Rattle.view_ends.specs.Ends.{Rose, RoseBy, AllStay, OthersStay, NoneFalls}
-use Rattle.view_meaning.specs.Layout.{IsLaid, fault}
+use Rattle.std.proofs.Common.{◌≡◌, ◌≢◌, ℕ, ◌≤◌, List, [], ◌∷◌, Option, Bool, length, refl, sym, ◌∙◌, subst, arith, inl, inr}
+use Rattle.std.specs.Prelude.{IsTrue, ◌⊎◌}
 use Rattle.sessions.specs.declared.end.SessionEnd.{SessionEnd}
-use Rattle.view_ends.specs.Desk.{Said}
-use Rattle.view_commands.specs.Files.{TakenToTheEnd}
-use Rattle.view_commands.specs.Told.{IsNothing}
-use Rattle.view_commands.specs.Serve.{RunsSession, RunsOpened, OpensEnds, ServesSurvey, ServesEnds, Refuses, IsAsWasOrEmpty, EndsCause, Cause, NoneRose}
+use Rattle.view_ends.specs.Desk.{Said, Untouched}
+use Rattle.view_ends.specs.Ends.{Rose, RoseBy, AllStay, OthersStay}
+use Rattle.view_meaning.specs.Layout.{IsLaid}
+use Rattle.view_commands.specs.Texts.{IsRead, OnlyTook, NoSurvey}
+use Rattle.view_commands.specs.Serve.{IsNothing, NotOpened, RunsSession, IsCalm, Goes, ServesOne}
+use Rattle.view_commands.specs.Steps.{OnlyInput, OpensOutputs}
 use Rattle.view_commands.specs.declared.status.Status as status
 use Rattle.view_commands.specs.declared.status.Status.TheVariants.{Done, Words, Limit, OpenFault, ReadFault, TooLong, Survey, WriteFault, SessionLimit, Memory, NotYet}
 use Rattle.view_commands.specs.declared.told.Ended as told
-use Rattle.view_commands.proofs.Counts.{rose_earlier, at_most}
-use Rattle.view_commands.proofs.Runs.{runs_earlier, runs_settled, runs_limit}
+use Rattle.view_commands.proofs.Counts.{at_most, same_said}
+use Rattle.view_commands.proofs.Opened.{not_opened-between}
+use Rattle.view_commands.proofs.Runs.{runs-earlier, runs-settle}
+use Rattle.view_commands.proofs.Written.{no_survey-settles, no_survey-taken, read-settles}
 
--- one end
-pub one_ran : (tells : Bool) (old new : Said) (journal input output b : List ℕ) (left : Option (List ℕ)) (end : SessionEnd) (ended : told.Ended) (ends : List SessionEnd) → ends ≡ end ∷ []
-    → OthersStay old.taken new.taken input → RunsSession tells old new journal input output b left end ended → RunsOpened tells old new journal input output b left ended ends
-one_ran tells old new journal input output b left end ended ends one taken runs =
-    subst (λ (l : List SessionEnd). RunsOpened tells old new journal input output b left ended l) (sym one) (taken, runs)
-
--- a file that stays after it was emptied or left alone
-stays : (tells : Bool) (old mid new : Said) (name : List ℕ) → new.file name ≡ mid.file name → IsAsWasOrEmpty tells old mid name → IsAsWasOrEmpty tells old new name
-stays tells old mid new name same (inl was) = inl (same ∙ was)
-stays tells old mid new name same (inr empty) = inr (λ tell. same ∙ empty tell)
-
--- the same of a file that was as it was before it was emptied or left alone
-stayed : (tells : Bool) (old mid new : Said) (name : List ℕ) → mid.file name ≡ old.file name → IsAsWasOrEmpty tells mid new name → IsAsWasOrEmpty tells old new name
-stayed tells old mid new name same (inl was) = inl (was ∙ same)
-stayed tells old mid new name same (inr empty) = inr empty
-
-at_most_same : (a b c : ℕ) → b ≡ a → c ≤ b → c ≤ a
-at_most_same a b c same le = omega (arith, same, le)
-
--- the ends were opened, and then served
-pub survey_served : (tells : Bool) (old mid new : Said) (journal input output b : List ℕ) (left : Option (List ℕ)) (ended : told.Ended) (ends : List SessionEnd) → OpensEnds tells old mid journal input output left
-    → RunsOpened tells mid new journal input output b left ended ends → ServesSurvey tells old new journal input output b ended ends
-survey_served tells old mid new journal input output b left ended [] opens runs = (
-  runs.1,
-  subst (λ (s : status.Status). EndsCause old new journal input output s) (sym runs.0) tt,
-  record {
-    output_file = stays tells old mid new output (runs.2 output) opens.emptied.output_file;
-    journal_file = stays tells old mid new journal (runs.2 journal) opens.emptied.journal_file;
-    files = λ other no yes. runs.2 other ∙ opens.emptied.files other no yes;
-  },
-  at_most_same _ _ _ (opens.taken input) runs.3,
-)
-survey_served tells old mid new journal input output b left ended (end ∷ []) opens runs = (
-  opens.there,
-  λ other not_input. runs.0 other not_input ∙ opens.taken other,
-  subst (λ (o : Option (List ℕ)). RunsSession tells old new journal input output b o end ended) opens.bytes
-      (runs_earlier tells old mid new journal input output b left end ended opens.counts.reads opens.counts.writes opens.counts.unkept (opens.taken input) opens.emptied.files runs.1),
-)
-survey_served tells old mid new journal input output b left ended (end ∷ other ∷ others) opens runs = absurd runs
-
-ends_cause : (old mid new : Said) (survey journal input output : List ℕ) (status : status.Status) → NoneFalls old.unopened mid.unopened → AllStay old.writes mid.writes → EndsCause mid new journal input output status → Cause old new survey journal input output status
-ends_cause old mid new survey journal input output (OpenFault at) unopened writes (inl cause) = inr (inl (cause.0, rose_earlier (old.unopened input) (mid.unopened input) (new.unopened input) (unopened input) cause.1))
-ends_cause old mid new survey journal input output (OpenFault at) unopened writes (inr (inl cause)) = inr (inr (inl (cause.0, subst (λ (n : ℕ). Rose n (new.writes output)) (writes output) cause.1)))
-ends_cause old mid new survey journal input output (OpenFault at) unopened writes (inr (inr cause)) = inr (inr (inr (cause.0, subst (λ (n : ℕ). Rose n (new.writes journal)) (writes journal) cause.1)))
-ends_cause old mid new survey journal input output Memory unopened writes cause = tt
-ends_cause old mid new survey journal input output Done unopened writes cause = cause
-ends_cause old mid new survey journal input output (Words at) unopened writes cause = absurd cause
-ends_cause old mid new survey journal input output (Limit limit) unopened writes cause = absurd cause
-ends_cause old mid new survey journal input output (ReadFault at) unopened writes cause = absurd cause
-ends_cause old mid new survey journal input output TooLong unopened writes cause = absurd cause
-ends_cause old mid new survey journal input output (Survey found) unopened writes cause = absurd cause
-ends_cause old mid new survey journal input output (WriteFault at) unopened writes cause = absurd cause
-ends_cause old mid new survey journal input output (SessionLimit at) unopened writes cause = absurd cause
-ends_cause old mid new survey journal input output NotYet unopened writes cause = absurd cause
-
--- a refusal before the session, of a survey that is none, or where nothing outside failed
-told_bytes : (file : Option (List ℕ)) (b c : List ℕ) → file ≡ Some c → IfSome file (λ bytes. bytes ≡ b) → c ≡ b
-told_bytes None b c is all = absurd (cc is)
-told_bytes (Some bytes) b c is all = let same : bytes ≡ c = cc is in sym same ∙ all
-
-told_long : (file : Option (List ℕ)) (c : List ℕ) → file ≡ Some c → IfSome file (λ bytes. load.LIMIT < length bytes) → load.LIMIT < length c
-told_long file c is long = subst (λ (o : Option (List ℕ)). IfSome o (λ bytes. load.LIMIT < length bytes)) is long
-
-pub cause_settled : (old new : Said) (survey journal input output b : List ℕ) (status : status.Status) → Cause old new survey journal input output status → old.file survey ≡ Some b → length b ≤ load.LIMIT → IsLaid b
-    → NoneRose old new survey journal input output → status ≡ Memory
-unfolding IsLaid
-cause_settled old new survey journal input output b (OpenFault at) (inl cause) is few laid calm = absurd (calm.survey_opened cause.1)
-cause_settled old new survey journal input output b (OpenFault at) (inr (inl cause)) is few laid calm = absurd (calm.input_opened cause.1)
-cause_settled old new survey journal input output b (OpenFault at) (inr (inr (inl cause))) is few laid calm = absurd (calm.output_written cause.1)
-cause_settled old new survey journal input output b (OpenFault at) (inr (inr (inr cause))) is few laid calm = absurd (calm.journal_written cause.1)
-cause_settled old new survey journal input output b (ReadFault at) cause is few laid calm = absurd (calm.survey_read cause.1)
-cause_settled old new survey journal input output b TooLong cause is few laid calm = let long = told_long (old.file survey) b is cause.1 in absurd (omega (arith, long, few))
-cause_settled old new survey journal input output b (Survey found) cause is few laid calm =
-    let same : b ≡ cause.0 = told_bytes (old.file survey) cause.0 b is cause.1.all in
-    absurd (cc (sym cause.2 ∙ ap fault (sym same) ∙ laid))
-cause_settled old new survey journal input output b Memory cause is few laid calm = refl
-cause_settled old new survey journal input output b Done cause is few laid calm = absurd cause
-cause_settled old new survey journal input output b (Words at) cause is few laid calm = absurd cause
-cause_settled old new survey journal input output b (Limit limit) cause is few laid calm = absurd cause
-cause_settled old new survey journal input output b (WriteFault at) cause is few laid calm = absurd cause
-cause_settled old new survey journal input output b (SessionLimit at) cause is few laid calm = absurd cause
-cause_settled old new survey journal input output b NotYet cause is few laid calm = absurd cause
-
--- the survey was read, and then served
-pub one_served : (tells : Bool) (old mid new : Said) (survey journal input output b : List ℕ) (ended : told.Ended) (ends : List SessionEnd) → survey ≢ input → TakenToTheEnd old mid survey b → (IsTrue tells → IsSome (old.file survey)) → IsLaid b
-    → AllStay old.file mid.file → AllStay old.writes mid.writes → AllStay old.unkept mid.unkept → NoneFalls old.unopened mid.unopened → NoneFalls old.reads mid.reads → OthersStay old.taken mid.taken survey
-    → ServesSurvey tells mid new journal input output b ended ends → ServesEnds tells old new survey journal input output ended ends
-one_served tells old mid new survey journal input output b ended [] apart read there laid files writes unkept unopened reads taken served =
-    let cause = ends_cause old mid new survey journal input output ended.status unopened writes served.1 in
+-- no survey came
+pub serves-none : (tells : Bool) (old new : Said) (survey journal input output : List ℕ) (is : status.Status) (ended : told.Ended) → survey ≢ input → ended.status ≡ is → IsNothing ended.told
+    → NoSurvey tells old new survey is → ServesOne tells old new survey journal input output ended
+serves-none tells old new survey journal input output status_is ended apart is nothing none =
+    let came : NoSurvey tells old new survey ended.status = subst (λ (s : status.Status). NoSurvey tells old new survey s) (sym is) none in
+    let untaken = no_survey-taken tells old new survey ended.status came input (λ same. apart (sym same)) in
     record {
-      nothing = served.0;
-      cause = cause;
-      emptied = record {
-        output_file = stayed tells old mid new output (files output) served.2.output_file;
-        journal_file = stayed tells old mid new journal (files journal) served.2.journal_file;
-        files = λ other no yes. served.2.files other no yes ∙ files other;
-      };
-      untaken = at_most_same _ _ _ (taken input (λ same. apart (sym same))) served.3;
-      unserved = λ tell c is opened calm.
-          let same : c ≡ b = told_bytes (old.file survey) b c is read.all in
-          let sizes : length c ≡ length b = ap (λ (l : List ℕ). length l) same in
-          let few = read.few in
-          record {
-            too_long = λ long. absurd (omega (arith, long, sizes, few));
-            not_laid = λ short unlaid. absurd (unlaid (subst (λ (l : List ℕ). IsLaid l) (sym same) laid));
-          };
-      settled = λ tell c is short fine calm. cause_settled old new survey journal input output c ended.status cause is short fine calm;
+      outcome = subst (λ (l : List SessionEnd). Goes tells old new survey journal input output ended l) (sym nothing.sessions) (nothing, at_most _ _ untaken, inl came);
+      settled = no_survey-settles tells old new survey (IsCalm old new journal input output) ended.status came;
     }
-one_served tells old mid new survey journal input output b ended (end ∷ []) apart read there laid files writes unkept unopened reads taken served =
-    let no_falls : NoneFalls old.writes mid.writes = λ name. omega (arith, writes name) in
-    let earlier = runs_earlier tells old mid new journal input output b (mid.file input) end ended reads no_falls unkept (taken input (λ same. apart (sym same))) (λ other no yes. files other) served.2 in
-    let runs : RunsSession tells old new journal input output b (old.file input) end ended = subst (λ (o : Option (List ℕ)). RunsSession tells old new journal input output b o end ended) (files input) earlier in
-    record {
-      b = b;
-      read = record {
-        few = read.few;
-        counted = subst (λ (n : ℕ). RoseBy (length b) (old.taken survey) n) (sym (served.1 survey apart)) read.counted;
-        all = read.all;
-      };
-      there = there;
-      laid = laid;
-      input_there = λ tell. subst (λ (o : Option (List ℕ)). IsSome o) (files input) (served.0 tell);
-      runs = runs;
-      limit = runs_limit tells old new journal input output b (old.file input) end ended runs;
-      settled = λ tell i is few calm. runs_settled tells old new survey journal input output b i (old.file input) end ended runs is few calm;
-    }
-one_served tells old mid new survey journal input output b ended (end ∷ other ∷ others) apart read there laid files writes unkept unopened reads taken served = absurd served
 
--- the survey is none
-pub no_survey : (tells : Bool) (old new : Said) (survey journal input output b : List ℕ) (found : SurveyFault) (ended : told.Ended) (ends : List SessionEnd) → survey ≢ input → ends ≡ [] → IsNothing ended.told
-    → ended.status ≡ Survey found → TakenToTheEnd old new survey b → fault b ≡ Some (fault_of found) → AllStay old.file new.file → OthersStay old.taken new.taken survey → ServesEnds tells old new survey journal input output ended ends
-no_survey tells old new survey journal input output b found ended ends apart none nothing is_status read at_fault files taken =
-    let cause : Cause old new survey journal input output ended.status = subst (λ (s : status.Status). Cause old new survey journal input output s) (sym is_status) (b, read, at_fault) in
-    let refuses : Refuses tells old new survey journal input output ended = record {
-      nothing = nothing;
-      cause = cause;
-      emptied = record {
-        output_file = inl (files output);
-        journal_file = inl (files journal);
-        files = λ other no yes. files other;
-      };
-      untaken = at_most _ _ (sym (taken input (λ same. apart (sym same))));
-      unserved = λ tell c is opened calm.
-          let same : c ≡ b = told_bytes (old.file survey) b c is read.all in
-          let sizes : length c ≡ length b = ap (λ (l : List ℕ). length l) same in
-          let few = read.few in
-          record {
-            too_long = λ long. absurd (omega (arith, long, sizes, few));
-            not_laid = λ short unlaid. inl (found, is_status, ap fault same ∙ at_fault);
-          };
-      settled = λ tell c is short fine calm. cause_settled old new survey journal input output c ended.status cause is short fine calm;
+-- what was read before further inputs were opened and shut
+read-before : (tells : Bool) (old mid new : Said) (survey input b : List ℕ) → survey ≢ input → IsRead tells old mid survey b → OnlyInput mid new input → IsRead tells old new survey b
+read-before tells old mid new survey input b apart read only = record {
+  few = read.few;
+  all = read.all;
+  there = read.there;
+  counted = subst (λ (n : ℕ). RoseBy (length b) (old.taken survey) n) (sym (only.taken survey apart)) read.counted;
+  opened = only.unopened survey apart ∙ read.opened;
+  unfailed = only.reads survey apart ∙ read.unfailed;
+}
+
+-- a refused opening, where nothing failed, is want of memory
+not_opened-calm : (tells : Bool) (old new : Said) (journal input output : List ℕ) (status : status.Status) → NotOpened tells old new journal input output status → IsCalm old new journal input output → (status ≡ Done) ⊎ (status ≡ Memory)
+not_opened-calm tells old new journal input output (OpenFault at) (inl none) calm = absurd (calm.opened none.1)
+not_opened-calm tells old new journal input output (OpenFault at) (inr (inl none)) calm = absurd (calm.output_written none.1)
+not_opened-calm tells old new journal input output (OpenFault at) (inr (inr none)) calm = absurd (calm.journal_written none.1)
+not_opened-calm tells old new journal input output Memory none calm = inr refl
+not_opened-calm tells old new journal input output Done none calm = absurd none
+not_opened-calm tells old new journal input output (Words at) none calm = absurd none
+not_opened-calm tells old new journal input output (Limit limit) none calm = absurd none
+not_opened-calm tells old new journal input output (ReadFault at) none calm = absurd none
+not_opened-calm tells old new journal input output TooLong none calm = absurd none
+not_opened-calm tells old new journal input output (Survey told) none calm = absurd none
+not_opened-calm tells old new journal input output (WriteFault at) none calm = absurd none
+not_opened-calm tells old new journal input output (SessionLimit at) none calm = absurd none
+not_opened-calm tells old new journal input output NotYet none calm = absurd none
+
+-- a survey was read, and then not all was opened
+pub serves-unopened : (tells : Bool) (old mid new : Said) (survey journal input output b : List ℕ) (is : status.Status) (ended : told.Ended) → survey ≢ input → ended.status ≡ is → IsNothing ended.told
+    → IsLaid b → IsRead tells old mid survey b → OnlyTook old mid survey → NotOpened tells mid new journal input output is → OnlyInput mid new input → new.taken input ≤ mid.taken input
+    → ServesOne tells old new survey journal input output ended
+serves-unopened tells old mid new survey journal input output b status_is ended apart is nothing laid read took none only untaken =
+    let reads = read-before tells old mid new survey input b apart read only in
+    let came : NotOpened tells old new journal input output ended.status =
+    subst (λ (s : status.Status). NotOpened tells old new journal input output s) (sym is) (not_opened-between tells old mid new new journal input output status_is took.rest (same_said new) none) in
+    let same : mid.taken input ≡ old.taken input = took.others input (λ same. apart (sym same)) in
+    record {
+      outcome = subst (λ (l : List SessionEnd). Goes tells old new survey journal input output ended l) (sym nothing.sessions)
+          (nothing, subst (λ (n : ℕ). new.taken input ≤ n) same untaken, inr (b, laid, reads, came));
+      settled = read-settles tells old new survey b (IsCalm old new journal input output) ended.status laid reads (not_opened-calm tells old new journal input output ended.status came);
+    }
+
+-- a survey was read, then all was opened, and then the session ran
+pub serves-session : (tells : Bool) (old mid last new : Said) (survey journal input output b : List ℕ) (left : Option (List ℕ)) (ended : told.Ended) (end : SessionEnd) → survey ≢ input → ended.told.sessions.items ≡ end ∷ []
+    → IsLaid b → IsRead tells old mid survey b → OnlyTook old mid survey → left ≡ mid.file input → OpensOutputs mid last journal output → RunsSession tells last new journal input output b left ended end → OnlyInput last new input
+    → ServesOne tells old new survey journal input output ended
+serves-session tells old mid last new survey journal input output b left ended end apart one laid read took left_is opens runs only =
+    let same_input : left ≡ old.file input = left_is ∙ took.rest.files input in
+    let reads = read-before tells old mid new survey input b apart read record {
+      unopened = λ other apart. only.unopened other apart ∙ opens.rest.unopened other;
+      reads = λ other apart. only.reads other apart ∙ opens.rest.reads other;
+      taken = λ other apart. only.taken other apart ∙ opens.rest.taken other;
     } in
-    subst (λ (l : List SessionEnd). ServesEnds tells old new survey journal input output ended l) (sym none) refuses
+    let earlier = runs-earlier tells old last new journal input output b left ended end
+    (λ other. opens.rest.unopened other ∙ took.rest.unopened other)
+    (λ other. opens.rest.reads other ∙ took.rest.reads other)
+    (λ other. opens.rest.writes other ∙ took.rest.writes other)
+    (λ other. opens.rest.unkept other ∙ took.rest.unkept other)
+    (opens.rest.taken input ∙ took.others input (λ same. apart (sym same)))
+    (λ other apart too. opens.files other apart too ∙ took.rest.files other) runs in
+    let session : RunsSession tells old new journal input output b (old.file input) ended end =
+    subst (λ (o : Option (List ℕ)). RunsSession tells old new journal input output b o ended end) same_input earlier in
+    record {
+      outcome = subst (λ (l : List SessionEnd). Goes tells old new survey journal input output ended l) (sym one) (b, laid, reads, session);
+      settled = read-settles tells old new survey b (IsCalm old new journal input output) ended.status laid reads (λ calm. runs-settle tells old new journal input output b ended end session calm);
+    }

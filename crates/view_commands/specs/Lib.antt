@@ -1,9 +1,6 @@
-pub mod Files
 pub mod Status
-pub mod Told
-pub mod Journal
+pub mod Texts
 pub mod Serve
-pub mod Made
-pub mod Draw
-pub mod Info
 pub mod Run
+pub mod Calls
+pub mod Steps

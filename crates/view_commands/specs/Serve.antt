@@ -1,25 +1,27 @@
 -- What a `serve` with one pair of an IN and an OUT gives, and why it gives up.
-use Rattle.std.specs.Prelude.{◌≡◌, ◌≢◌, ℕ, ◌+◌, ◌<◌, ◌≤◌, ◌⊎◌, ◌↔◌, Bool, IsTrue, List, [], ◌∷◌, length, Option, Some, IsSome, IfSome, All}
-use Rattle.las_survey.specs.Fault.{fault_of}
-use Rattle.las_survey.specs.declared.fault.SurveyFault.{SurveyFault}
-use Rattle.las_survey.specs.declared.loading.TheConstants.{LIMIT}
-use Rattle.view_ends.specs.Ends.{Rose, RoseBy, AllStay, OthersStay, NoneFalls}
-use Rattle.view_meaning.specs.Layout.{IsLaid, fault}
-use Rattle.sessions.specs.declared.end.SessionEnd.{SessionEnd}
+use Rattle.std.specs.Prelude.{◌≡◌, ◌≢◌, ℕ, ◌+◌, ◌≤◌, ◌⊎◌, ◌↔◌, Bool, IsTrue, List, [], ◌∷◌, ◌++◌, length, Option, Some, IsSome, All}
+use Rattle.std.specs.List.{flat_map}
+use Rattle.edit_ops.specs.EditLine.{canonical}
 use Rattle.sessions.specs.declared.end.Reason as reason
 use Rattle.sessions.specs.declared.end.Reason.TheVariants as why
+use Rattle.sessions.specs.declared.end.SessionEnd.{SessionEnd}
+use Rattle.sessions.specs.Session.{LIMIT, Served}
 use Rattle.version_store.specs.declared.history.Entry.{Entry}
 use Rattle.version_store.specs.Histories.{journal, IsLegal, IsGivenBack, held}
-use Rattle.sessions.specs.Session as session
-use Rattle.sessions.specs.Session.{Served}
-use Rattle.view_ends.specs.Desk.{Said}
-use Rattle.view_commands.specs.Files.{TakenToTheEnd, HoldsFront}
-use Rattle.view_commands.specs.Told.{IsNothing}
-use Rattle.view_commands.specs.Journal.{journal_text, KeptSo, WrittenSo}
-use Rattle.view_commands.specs.declared.serving.Closed.{Closed}
+use Rattle.view_ends.specs.Desk.{Said, Untouched}
+use Rattle.view_ends.specs.Ends.{Rose, RoseBy, AllStay, OthersStay}
+use Rattle.view_meaning.specs.Classes as meaning
+use Rattle.view_meaning.specs.Layout.{IsLaid}
+use Rattle.view_commands.specs.declared.places.TheConstants.{JOURNAL, INPUT, OUTPUT}
 use Rattle.view_commands.specs.declared.status.Status as status
-use Rattle.view_commands.specs.declared.status.Status.TheVariants.{Done, OpenFault, ReadFault, TooLong, Survey, WriteFault, SessionLimit, Memory}
-use Rattle.view_commands.specs.declared.told.Ended as told
+use Rattle.view_commands.specs.declared.status.Status.TheVariants.{Done, OpenFault, ReadFault, WriteFault, SessionLimit, Memory}
+use Rattle.view_commands.specs.declared.told.Ended.{Ended}
+use Rattle.view_commands.specs.declared.told.Told.{Told}
+use Rattle.view_commands.specs.Texts.{IsRead, NoSurvey, KeepsText, SettlesFile}
+
+-- the canonical line and LF of each of these edits, in order
+unfoldable pub journal_text : List meaning.Edit → List ℕ
+journal_text edits = flat_map (λ edit. canonical edit ++ 10 ∷ []) edits
 
 -- the status of a reason, where its input and its output are the words at these places
 abbrev pub status_at : ℕ → ℕ → reason.Reason → status.Status
@@ -37,187 +39,105 @@ first_status first second = first
 -- the status after a session: the reason of its end, else what came of keeping its output, else what came of
 -- the journal
 abbrev pub status_of : reason.Reason → reason.Reason → reason.Reason → status.Status
-status_of ended kept journal = first_status (status_at 4 5 ended) (first_status (status_at 4 5 kept) (status_at 3 3 journal))
+status_of ended kept journal = first_status (status_at INPUT OUTPUT ended) (first_status (status_at INPUT OUTPUT kept) (status_at JOURNAL JOURNAL journal))
 
--- a file is as it was, or empty where the desk tells its files
-abbrev pub IsAsWasOrEmpty : Bool → Said → Said → List ℕ → Type 0
-IsAsWasOrEmpty tells old new name = (new.file name ≡ old.file name) ⊎ (IsTrue tells → new.file name ≡ Some [])
+-- a command told nothing of sessions
+pub record IsNothing (told : Told) : Type 0 where
+  pub history : told.history.items ≡ []
+  pub sessions : told.sessions.items ≡ []
+  pub journal : told.journal ≡ why.Finished
+
+-- a file is empty, where the desk tells its files, and all others are as they were
+pub record Empties (tells : Bool) (old new : Said) (name : List ℕ) : Type 0 where
+  pub empty : IsTrue tells → new.file name ≡ Some []
+  pub others : OthersStay old.file new.file name
+
+-- why not all was opened, first the input, then the output and then the journal; that the files of those before
+-- that were opened to write are empty, and all others as they were; and that no other count rose
+abbrev pub NotOpened : Bool → Said → Said → List ℕ → List ℕ → List ℕ → status.Status → Type 0
+NotOpened tells old new journal input output (OpenFault at) =
+    ((at ≡ INPUT) × Rose (old.unopened input) (new.unopened input) × Untouched (record old { unopened = new.unopened; taken = new.taken }) new)
+    ⊎ ((at ≡ OUTPUT) × Rose (old.writes output) (new.writes output) × Untouched (record old { writes = new.writes; taken = new.taken }) new)
+    ⊎ ((at ≡ JOURNAL) × Rose (old.writes journal) (new.writes journal) × Empties tells old new output × Untouched (record old { file = new.file; writes = new.writes; taken = new.taken }) new)
+NotOpened tells old new journal input output Memory = (AllStay old.file new.file ⊎ Empties tells old new output) × Untouched (record old { file = new.file; taken = new.taken }) new
+NotOpened tells old new journal input output _ = ⊥
+
+-- what came of keeping a name whose output got these bytes: its file, and its count of refused keepings
+abbrev pub KeptSo : Said → Said → List ℕ → Option (List ℕ) → reason.Reason → Type 0
+KeptSo old new name got why.Finished = (new.file name ≡ got) × (new.unkept name ≡ old.unkept name)
+KeptSo old new name got why.WriteFault = Rose (old.unkept name) (new.unkept name)
+KeptSo old new name got why.Memory = Rose (old.unkept name) (new.unkept name)
+KeptSo old new name got _ = ⊥
+
+-- a count rose where this is so, and else stayed
+pub record RoseWhere (P : Type 0) (before after : ℕ) : Type 0 where
+  pub rose : P → Rose before after
+  pub calm : (P → ⊥) → after ≡ before
 
 -- each file but these two is as it was
 abbrev pub OtherFilesStay : Said → Said → List ℕ → List ℕ → Type 0
 OtherFilesStay old new output journal = (other : List ℕ) → other ≢ output → other ≢ journal → new.file other ≡ old.file other
 
--- no file is otherwise than it was, but that these two may be empty
-pub record MayEmpty (tells : Bool) (old new : Said) (journal output : List ℕ) : Type 0 where
-  pub output_file : IsAsWasOrEmpty tells old new output
-  pub journal_file : IsAsWasOrEmpty tells old new journal
-  pub files : OtherFilesStay old new output journal
-
--- the counts of faults after files were opened: none fell, and nothing was kept
-pub record OnlyOpens (old new : Said) : Type 0 where
-  pub unopened : NoneFalls old.unopened new.unopened
-  pub reads : NoneFalls old.reads new.reads
-  pub writes : NoneFalls old.writes new.writes
-  pub unkept : AllStay old.unkept new.unkept
-
--- an input of which nothing was taken, and two outputs that got nothing
-pub record AreFresh (tells : Bool) (taken faults : ℕ) (output journal : Option (List ℕ)) (output_faults journal_faults : ℕ) : Type 0 where
-  pub untaken : taken ≡ 0
-  pub faultless : faults ≡ 0
-  pub output_empty : IsTrue tells → output ≡ Some []
-  pub output_faultless : output_faults ≡ 0
-  pub journal_empty : IsTrue tells → journal ≡ Some []
-  pub journal_faultless : journal_faults ≡ 0
-
--- an input was opened whose bytes are these, and both outputs were
-pub record OpensEnds (tells : Bool) (old new : Said) (journal input output : List ℕ) (left : Option (List ℕ)) : Type 0 where
-  pub bytes : left ≡ old.file input
-  pub there : IsTrue tells → IsSome (old.file input)
-  pub emptied : MayEmpty tells old new journal output
-  pub counts : OnlyOpens old new
-  pub taken : AllStay old.taken new.taken
-
--- the cause of a refusal to open an input and two outputs
-abbrev pub EndsCause : Said → Said → List ℕ → List ℕ → List ℕ → status.Status → Type 0
-EndsCause old new journal input output (OpenFault at) =
-    ((at ≡ 4) × Rose (old.unopened input) (new.unopened input))
-    ⊎ ((at ≡ 5) × Rose (old.writes output) (new.writes output))
-    ⊎ ((at ≡ 3) × Rose (old.writes journal) (new.writes journal))
-EndsCause old new journal input output Memory = Unit {0}
-EndsCause old new journal input output _ = ⊥
-
--- the same of two outputs alone
-abbrev pub WrittenCause : Said → Said → List ℕ → List ℕ → status.Status → Type 0
-WrittenCause old new journal output (OpenFault at) =
-    ((at ≡ 5) × Rose (old.writes output) (new.writes output))
-    ⊎ ((at ≡ 3) × Rose (old.writes journal) (new.writes journal))
-WrittenCause old new journal output Memory = Unit {0}
-WrittenCause old new journal output _ = ⊥
-
--- the cause of a refusal before the session
-abbrev pub Cause : Said → Said → List ℕ → List ℕ → List ℕ → List ℕ → status.Status → Type 0
-Cause old new survey journal input output (OpenFault at) =
-    ((at ≡ 1) × Rose (old.unopened survey) (new.unopened survey))
-    ⊎ ((at ≡ 4) × Rose (old.unopened input) (new.unopened input))
-    ⊎ ((at ≡ 5) × Rose (old.writes output) (new.writes output))
-    ⊎ ((at ≡ 3) × Rose (old.writes journal) (new.writes journal))
-Cause old new survey journal input output (ReadFault at) = (at ≡ 1) × Rose (old.reads survey) (new.reads survey)
-Cause old new survey journal input output TooLong =
-    RoseBy (LIMIT + 1) (old.taken survey) (new.taken survey) × IfSome (old.file survey) (λ b. LIMIT < length b)
-Cause old new survey journal input output (Survey found) =
-    (b : List ℕ) × TakenToTheEnd old new survey b × (fault b ≡ Some (fault_of found))
-Cause old new survey journal input output Memory = Unit {0}
-Cause old new survey journal input output _ = ⊥
-
--- how a `serve` of a survey with these bytes ends, where they are no survey, with want of memory always free
-pub record EndsUnserved (b : List ℕ) (ended : status.Status) : Type 0 where
-  pub too_long : LIMIT < length b → (ended ≡ TooLong) ⊎ (ended ≡ Memory)
-  pub not_laid : length b ≤ LIMIT → (IsLaid b → ⊥)
-      → ((found : SurveyFault) × (ended ≡ Survey found) × (fault b ≡ Some (fault_of found))) ⊎ (ended ≡ Memory)
-
--- none of the counts of this line's names rose
-pub record NoneRose (old new : Said) (survey journal input output : List ℕ) : Type 0 where
-  pub survey_opened : Rose (old.unopened survey) (new.unopened survey) → ⊥
-  pub survey_read : Rose (old.reads survey) (new.reads survey) → ⊥
-  pub input_opened : Rose (old.unopened input) (new.unopened input) → ⊥
-  pub input_read : Rose (old.reads input) (new.reads input) → ⊥
-  pub output_written : Rose (old.writes output) (new.writes output) → ⊥
-  pub journal_written : Rose (old.writes journal) (new.writes journal) → ⊥
-
--- a refusal before the session: its cause, and what stands then
-pub record Refuses (tells : Bool) (old new : Said) (survey journal input output : List ℕ) (ended : told.Ended) : Type 0 where
-  pub nothing : IsNothing ended.told
-  pub cause : Cause old new survey journal input output ended.status
-  pub emptied : MayEmpty tells old new journal output
-  -- nothing was taken of the input
-  pub untaken : new.taken input ≤ old.taken input
-  -- and how it ends where nothing outside failed
-  pub unserved : IsTrue tells → (b : List ℕ) → old.file survey ≡ Some b → (Rose (old.unopened survey) (new.unopened survey) → ⊥) → (Rose (old.reads survey) (new.reads survey) → ⊥) → EndsUnserved b ended.status
-  pub settled : IsTrue tells → (b : List ℕ) → old.file survey ≡ Some b → length b ≤ LIMIT → IsLaid b
-      → NoneRose old new survey journal input output → ended.status ≡ Memory
-
--- an input, an output and the journal were given back, and what came of it
-pub record Closes (tells : Bool) (old new : Said) (journal input output : List ℕ) (taken faults : ℕ) (got : Option (List ℕ)) (output_faults : ℕ) (bytes : List ℕ) (closed : Closed) : Type 0 where
-  pub taken_more : RoseBy taken (old.taken input) (new.taken input)
-  pub taken_others : OthersStay old.taken new.taken input
-  pub read : 0 < faults → Rose (old.reads input) (new.reads input)
-  pub wrote : 0 < output_faults → Rose (old.writes output) (new.writes output)
-  pub keeping : KeptSo old new output closed.kept
-  pub output_file : closed.kept ≡ why.Finished → new.file output ≡ got
-  pub journal_file : closed.journal ≡ why.Finished → IsTrue tells → new.file journal ≡ Some bytes
-  pub journal_front : (closed.journal ≡ why.Finished → ⊥) → IsTrue tells → (Rose (old.unkept journal) (new.unkept journal) → ⊥) → HoldsFront new journal bytes
-  pub journal_cause : WrittenSo old new journal closed.journal
-  pub files : OtherFilesStay old new output journal
-
--- the cause of a session's end
-abbrev pub EndCause : Said → Said → List ℕ → List ℕ → reason.Reason → Type 0
-EndCause old new input output why.Finished = Unit {0}
-EndCause old new input output why.ReadFault = Rose (old.reads input) (new.reads input)
-EndCause old new input output why.SessionLimit = Unit {0}
-EndCause old new input output why.WriteFault = Rose (old.writes output) (new.writes output)
-EndCause old new input output why.Memory = Unit {0}
-
 -- a session over a survey with these bytes, whose input has those that are left: its history, what its output
--- and the journal hold, and the status that follows
-pub record RunsSession (tells : Bool) (old new : Said) (journal_name input output b : List ℕ) (left : Option (List ℕ)) (end : SessionEnd) (ended : told.Ended) : Type 0 where
+-- and the journal hold, what was counted, and the status that follows
+pub record RunsSession (tells : Bool) (old new : Said) (journal_name input output b : List ℕ) (left : Option (List ℕ)) (ended : Ended) (end : SessionEnd) : Type 0 where
+  -- what the output had got when the session began: nothing, where the desk tells it
   pub start : Option (List ℕ)
-  pub got : Option (List ℕ)
   pub empty : IsTrue tells → start ≡ Some []
+  -- what it had got when the session ended
+  pub got : Option (List ℕ)
+  -- the input was there
+  pub there : IsTrue tells → IsSome left
+  -- which items were processed under which marks, the entries that they made, and their replies
   pub served : Served b [] ended.told.history.items 1 left start got end.marks.items end.reason end.taken
+  -- the history is legal, each entry is by session 1, and every pin was given back
   pub legal : IsLegal ended.told.history.items
   pub mine : All (λ (entry : Entry). entry.who ≡ 1) ended.told.history.items
   pub given_back : IsGivenBack ended.told.history.items
-  pub newest_held : (callers : ℕ) → held callers ended.told.history.items ≡ (length (journal ended.told.history.items), 0) ∷ []
-  pub taken_more : RoseBy end.taken (old.taken input) (new.taken input)
-  pub cause : EndCause old new input output end.reason
+  -- at the end the newest version alone is held, without a pin
+  pub newest_held : held ended.told.history.items ≡ (length (journal ended.told.history.items), 0) ∷ []
+  -- the input was opened, and its count of bytes taken rose by what the session took
+  pub taken : RoseBy end.taken (old.taken input) (new.taken input)
+  pub opened : new.unopened input ≡ old.unopened input
+  -- its count of failed reads rose exactly where reading ended the session
+  pub read : RoseWhere (end.reason ≡ why.ReadFault) (old.reads input) (new.reads input)
   -- what came of keeping the output
   pub kept : reason.Reason
-  pub keeping : KeptSo old new output kept
-  pub output_kept : kept ≡ why.Finished → new.file output ≡ got
+  pub keeping : KeptSo old new output got kept
+  -- the output's count of failed writes rose exactly where writing or keeping it failed
+  pub wrote : RoseWhere ((end.reason ≡ why.WriteFault) ⊎ (kept ≡ why.WriteFault)) (old.writes output) (new.writes output)
+  -- what the output got is its file, unless its count of refused keepings rose
   pub output_file : (Rose (old.unkept output) (new.unkept output) → ⊥) → new.file output ≡ got
-  pub journal_file : ended.told.journal ≡ why.Finished → IsTrue tells → new.file journal_name ≡ Some (journal_text (journal ended.told.history.items))
-  pub journal_front : (ended.told.journal ≡ why.Finished → ⊥) → IsTrue tells → (Rose (old.unkept journal_name) (new.unkept journal_name) → ⊥)
-      → HoldsFront new journal_name (journal_text (journal ended.told.history.items))
-  pub journal_cause : WrittenSo old new journal_name ended.told.journal
-  pub status_is : ended.status ≡ status_of end.reason kept ended.told.journal
+  -- the journal has the line of each published edit, or what came of its writing says why not
+  pub journal_file : KeepsText tells old new journal_name (journal_text (journal ended.told.history.items)) ended.told.journal
+  -- the status is the first fault of session, output and journal
+  pub status : ended.status ≡ status_of end.reason kept ended.told.journal
+  -- a session is too long exactly where one byte too many came
+  pub limit : (ended.status ≡ SessionLimit INPUT) ↔ (end.taken ≡ LIMIT + 1)
+  -- no other file changed
   pub files : OtherFilesStay old new output journal_name
 
--- a `serve` whose ends are open: one session, or want of memory before it
-abbrev pub RunsOpened : Bool → Said → Said → List ℕ → List ℕ → List ℕ → List ℕ → Option (List ℕ) → told.Ended → List SessionEnd → Type 0
-RunsOpened tells old new journal input output b left ended [] =
-    (ended.status ≡ Memory) × IsNothing ended.told × AllStay old.file new.file × (new.taken input ≤ old.taken input)
-RunsOpened tells old new journal input output b left ended (end ∷ []) =
-    OthersStay old.taken new.taken input × RunsSession tells old new journal input output b left end ended
-RunsOpened tells old new journal input output b left ended _ = ⊥
+-- an input is no longer than it may be, and neither it nor what is written failed
+pub record IsCalm (old new : Said) (journal input output : List ℕ) : Type 0 where
+  pub few : (i : List ℕ) × (old.file input ≡ Some i) × (length i ≤ LIMIT)
+  pub opened : Rose (old.unopened input) (new.unopened input) → ⊥
+  pub read : Rose (old.reads input) (new.reads input) → ⊥
+  pub output_written : Rose (old.writes output) (new.writes output) → ⊥
+  pub journal_written : Rose (old.writes journal) (new.writes journal) → ⊥
 
--- a session over the survey of one name, from one name into another, and the journal in a third
-pub record Serves (tells : Bool) (old new : Said) (survey journal input output : List ℕ) (ended : told.Ended) (end : SessionEnd) : Type 0 where
-  pub b : List ℕ
-  pub read : TakenToTheEnd old new survey b
-  pub there : IsTrue tells → IsSome (old.file survey)
-  pub laid : IsLaid b
-  pub input_there : IsTrue tells → IsSome (old.file input)
-  pub runs : RunsSession tells old new journal input output b (old.file input) end ended
-  -- a session is too long exactly where one byte too many came
-  pub limit : (ended.status ≡ SessionLimit 4) ↔ (end.taken ≡ session.LIMIT + 1)
-  -- and how it ends where nothing outside failed
-  pub settled : IsTrue tells → (i : List ℕ) → old.file input ≡ Some i → length i ≤ session.LIMIT → NoneRose old new survey journal input output
-      → ((ended.status ≡ Done) × (end.reason ≡ why.Finished) × (end.taken ≡ length i)) ⊎ (ended.status ≡ Memory)
+-- how a `serve` went that tells of these ends: none, where no survey came or not all was opened, or one of its
+-- session
+abbrev pub Goes : Bool → Said → Said → List ℕ → List ℕ → List ℕ → List ℕ → Ended → List SessionEnd → Type 0
+Goes tells old new survey journal input output ended [] = IsNothing ended.told × (new.taken input ≤ old.taken input)
+    × (NoSurvey tells old new survey ended.status
+    ⊎ ((b : List ℕ) × IsLaid b × IsRead tells old new survey b × NotOpened tells old new journal input output ended.status))
+Goes tells old new survey journal input output ended (end ∷ []) =
+    (b : List ℕ) × IsLaid b × IsRead tells old new survey b × RunsSession tells old new journal input output b (old.file input) ended end
+Goes tells old new survey journal input output ended _ = ⊥
 
--- the ends of a `serve` of a survey that was just read and has these bytes
-abbrev pub ServesSurvey : Bool → Said → Said → List ℕ → List ℕ → List ℕ → List ℕ → told.Ended → List SessionEnd → Type 0
-ServesSurvey tells old new journal input output b ended [] =
-    IsNothing ended.told × EndsCause old new journal input output ended.status × MayEmpty tells old new journal output × (new.taken input ≤ old.taken input)
-ServesSurvey tells old new journal input output b ended (end ∷ []) =
-    (IsTrue tells → IsSome (old.file input)) × OthersStay old.taken new.taken input × RunsSession tells old new journal input output b (old.file input) end ended
-ServesSurvey tells old new journal input output b ended _ = ⊥
-
--- a `serve` with one pair that tells of these ends: none and a refusal, or one of its session
-abbrev pub ServesEnds : Bool → Said → Said → List ℕ → List ℕ → List ℕ → List ℕ → told.Ended → List SessionEnd → Type 0
-ServesEnds tells old new survey journal input output ended [] = Refuses tells old new survey journal input output ended
-ServesEnds tells old new survey journal input output ended (end ∷ []) = Serves tells old new survey journal input output ended end
-ServesEnds tells old new survey journal input output ended _ = ⊥
-
--- a `serve` with one pair: a refusal before the session, or the session
-abbrev pub ServesOne : Bool → Said → Said → List ℕ → List ℕ → List ℕ → List ℕ → told.Ended → Type 0
-ServesOne tells old new survey journal input output ended = ServesEnds tells old new survey journal input output ended ended.told.sessions.items
+-- a `serve` with one pair: how it went, and how it ends where nothing outside failed
+pub record ServesOne (tells : Bool) (old new : Said) (survey journal input output : List ℕ) (ended : Ended) : Type 0 where
+  -- no session, by a refusal with its cause, or one
+  pub outcome : Goes tells old new survey journal input output ended ended.told.sessions.items
+  -- and the status where nothing outside failed
+  pub settled : SettlesFile tells old new survey (IsCalm old new journal input output) ended.status

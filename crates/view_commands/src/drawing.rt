@@ -1,23 +1,20 @@
 ghost use Rattle.std.specs.Prelude.{◌≡◌, [], ◌≤◌, length, IfOk};
-ghost use Rattle.view_meaning.specs.Classes.{classes};
-ghost use Rattle.view_meaning.specs.Picture.{picture};
-ghost use Rattle.view_commands.specs.Draw.{Answers, AnswersLine, Draws, drawn};
-ghost use Rattle.view_commands.specs.Made.{WritesText};
+ghost use Rattle.view_commands.specs.Calls.{AnswersDraw};
+ghost use Rattle.view_commands.specs.Texts.{DrawsView, MakesText, drawn, view_in};
+ghost use Rattle.view_meaning.specs.Picture.{by_class};
 ghost use Rattle.view_words.specs.CommandLine.{IsLine, texts};
 
-use crate::files::{SurveyRefusal, read_survey};
-use crate::made::{SURVEY, write_text};
 use crate::status::Status;
+use crate::texts::{read_survey, write_text};
 use class_pages::base;
-use int_camera::{Camera, CameraNumbers, Kind};
 use las_survey::Survey;
 use plain_picture::{Scene, picture};
 use std::alloc::Global;
 use std::sync::Arc;
 use view_base::{Bytes, OutOfMemory};
 use view_ends::{Beside, Desk};
-use view_text::ViewSpec;
-use view_words::{Row, is_built, numbers_of, read_row, text_at, workers};
+use view_text::{TextFault, ViewSpec};
+use view_words::{Row, read_row, text_at, view_of_draw, workers};
 
 /// Writes one picture of a survey. The words are those of the command line, `draw` first; those of
 /// another command are refused.
@@ -25,7 +22,7 @@ use view_words::{Row, is_built, numbers_of, read_row, text_at, workers};
 /// The picture is whole in memory before its file is opened, so no refusal before that touches a
 /// file. How many workers draw it changes no byte.
 pub fn draw<D: Desk, B: Beside>(alloc: Global, words: &[String], desk: &mut D, beside: &B) -> Status
-    ensures { Answers D.tells (D.says desk.old) (D.says desk.new) (texts words.now) result }
+    ensures { AnswersDraw D.tells (D.says desk.old) (D.says desk.new) (texts words.now) result }
 {
     match read_row(Row::Draw, words) {
         Ok(()) => draw_line(alloc, words, desk, beside),
@@ -42,21 +39,19 @@ pub(crate) fn draw_line<D: Desk, B: Beside>(
 ) -> Status
     requires line { IsLine Row.Draw (texts words.now) }
     requires long { 26 ≤ length words.now }
-    ensures { AnswersLine D.tells (D.says desk.old) (D.says desk.new) (texts words.now) result }
+    ensures { DrawsView D.tells (D.says desk.old) (D.says desk.new) (texts words.now) (view_in (texts words.now)) result }
 {
-    if !is_built(words) {
-        return Status::NotYet;
-    }
-    match Camera::new(&CameraNumbers {
-        kind: Kind::Ortho,
-        n: numbers_of(words),
-    }) {
-        Ok(camera) => {
+    match view_of_draw(words) {
+        Ok(view) => {
             let workers = workers(Row::Draw, words);
             let (name, out) = (text_at(words, 1), text_at(words, 2));
-            draw_file(alloc, name, out, &camera, workers, desk, beside)
+            draw_file(alloc, name, out, &view, workers, desk, beside)
         }
-        Err(limit) => Status::Limit(limit),
+        Err(fault) => match fault {
+            TextFault::NotYet => Status::NotYet,
+            TextFault::Limit(limit) => Status::Limit(limit),
+            TextFault::Line { .. } => unreachable!(),
+        },
     }
 }
 
@@ -65,40 +60,20 @@ fn draw_file<D: Desk, B: Beside>(
     alloc: Global,
     name: &str,
     out: &str,
-    camera: &Camera,
+    view: &ViewSpec,
     workers: u32,
     desk: &mut D,
     beside: &B,
 ) -> Status
     requires workers { (1 ≤ workers) × (workers ≤ 64) }
-    ensures { Draws D.tells (D.says desk.old) (D.says desk.new) name.now out.now camera.now result }
+    requires built { view.now ≡ by_class view.now.camera }
+    ensures { MakesText D.tells (D.says desk.old) (D.says desk.new) name.now out.now (λ b. drawn b view.now) result }
 {
-    match read_survey(alloc, desk, name) {
-        Ok(survey) => draw_survey(alloc, survey, out, camera, workers, desk, beside),
-        Err(refusal) => match refusal {
-            SurveyRefusal::Open => Status::OpenFault { at: SURVEY },
-            SurveyRefusal::Read => Status::ReadFault { at: SURVEY },
-            SurveyRefusal::TooLong => Status::TooLong,
-            SurveyRefusal::Survey(fault) => Status::Survey(fault),
-            SurveyRefusal::Memory => Status::Memory,
-        },
-    }
-}
-
-/// Draws a survey into a file.
-fn draw_survey<D: Desk, B: Beside>(
-    alloc: Global,
-    survey: Survey,
-    out: &str,
-    camera: &Camera,
-    workers: u32,
-    desk: &mut D,
-    beside: &B,
-) -> Status
-    requires workers { (1 ≤ workers) × (workers ≤ 64) }
-    ensures { WritesText D.tells (D.says desk.old) (D.says desk.new) out.now (drawn survey camera.now) result }
-{
-    match picture_of(alloc, survey, camera, workers, beside) {
+    let survey = match read_survey(alloc, desk, name) {
+        Ok(survey) => survey,
+        Err(status) => return status,
+    };
+    match picture_of(alloc, survey, view, workers, beside) {
         Ok(bytes) => write_text(desk, out, bytes.as_slice()),
         Err(OutOfMemory) => Status::Memory,
     }
@@ -108,20 +83,20 @@ fn draw_survey<D: Desk, B: Beside>(
 fn picture_of<B: Beside>(
     alloc: Global,
     survey: Survey,
-    camera: &Camera,
+    view: &ViewSpec,
     workers: u32,
     beside: &B,
 ) -> Result<Bytes, OutOfMemory>
     requires workers { (1 ≤ workers) × (workers ≤ 64) }
-    ensures { IfOk result (λ bytes. bytes.items ≡ drawn survey camera.now) }
+    requires built { view.now ≡ by_class view.now.camera }
+    ensures { IfOk result (λ bytes. bytes.items ≡ drawn survey view.now) }
 {
     let scene = Scene {
         survey: Arc::new(alloc, survey)?,
         workers,
     };
     let classes = base(alloc, &scene.survey)?;
-    let view = ViewSpec::by_class(*camera);
     let mut bytes = Bytes::new(alloc);
-    picture(alloc, &scene, &classes, &view, beside, &mut bytes)?;
+    picture(alloc, &scene, &classes, view, beside, &mut bytes)?;
     Ok(bytes)
 }

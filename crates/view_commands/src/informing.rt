@@ -1,12 +1,12 @@
 ghost use Rattle.std.specs.Prelude.{◌≡◌, ◌≤◌, length, IfOk};
 ghost use Rattle.survey_info.specs.Text as told;
-ghost use Rattle.view_commands.specs.Info.{AnswersInfo, Informs};
-ghost use Rattle.view_commands.specs.Made.{MakesText, WritesText};
+ghost use Rattle.view_commands.specs.Calls.{AnswersInfo};
+ghost use Rattle.view_commands.specs.Texts.{MakesText};
+ghost use Rattle.view_base.specs.Fitting.{word_at};
 ghost use Rattle.view_words.specs.CommandLine.{IsLine, texts};
 
-use crate::files::{SurveyRefusal, read_survey};
-use crate::made::{SURVEY, write_text};
 use crate::status::Status;
+use crate::texts::{read_survey, write_text};
 use las_survey::Survey;
 use std::alloc::Global;
 use survey_info::info_text;
@@ -31,7 +31,7 @@ pub fn info<D: Desk>(alloc: Global, words: &[String], desk: &mut D) -> Status
 pub(crate) fn info_line<D: Desk>(alloc: Global, words: &[String], desk: &mut D) -> Status
     requires line { IsLine Row.Info (texts words.now) }
     requires long { 3 ≤ length words.now }
-    ensures { Informs D.tells (D.says desk.old) (D.says desk.new) (texts words.now) result }
+    ensures { MakesText D.tells (D.says desk.old) (D.says desk.new) (word_at (texts words.now) 1) (word_at (texts words.now) 2) told.info_text result }
 {
     info_file(alloc, text_at(words, 1), text_at(words, 2), desk)
 }
@@ -40,23 +40,11 @@ pub(crate) fn info_line<D: Desk>(alloc: Global, words: &[String], desk: &mut D) 
 fn info_file<D: Desk>(alloc: Global, name: &str, out: &str, desk: &mut D) -> Status
     ensures { MakesText D.tells (D.says desk.old) (D.says desk.new) name.now out.now told.info_text result }
 {
-    match read_survey(alloc, desk, name) {
-        Ok(survey) => info_survey(alloc, &survey, out, desk),
-        Err(refusal) => match refusal {
-            SurveyRefusal::Open => Status::OpenFault { at: SURVEY },
-            SurveyRefusal::Read => Status::ReadFault { at: SURVEY },
-            SurveyRefusal::TooLong => Status::TooLong,
-            SurveyRefusal::Survey(fault) => Status::Survey(fault),
-            SurveyRefusal::Memory => Status::Memory,
-        },
-    }
-}
-
-/// Writes the info text of a survey into a file.
-fn info_survey<D: Desk>(alloc: Global, survey: &Survey, out: &str, desk: &mut D) -> Status
-    ensures { WritesText D.tells (D.says desk.old) (D.says desk.new) out.now (told.info_text survey.now) result }
-{
-    match text_of(alloc, survey) {
+    let survey = match read_survey(alloc, desk, name) {
+        Ok(survey) => survey,
+        Err(status) => return status,
+    };
+    match text_of(alloc, &survey) {
         Ok(bytes) => write_text(desk, out, bytes.as_slice()),
         Err(OutOfMemory) => Status::Memory,
     }

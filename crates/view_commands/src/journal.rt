@@ -1,58 +1,42 @@
-ghost use Rattle.std.specs.Prelude.{◌≡◌, ◌++◌, [], ◌∷◌, Some, IsTrue, IfOk, OnOk};
+ghost use Rattle.std.specs.Prelude.{◌≡◌, ◌++◌, [], ◌∷◌, IfOk, OnOk};
 ghost use Rattle.version_store.specs.Histories.{journal, edit_in};
-ghost use Rattle.sessions.specs.Listening as listening;
 ghost use Rattle.view_ends.specs.Desk.{IsKnown};
-ghost use Rattle.view_commands.specs.Journal.{journal_text, Gives, WritesJournal};
+ghost use Rattle.view_commands.specs.Serve.{journal_text};
+ghost use Rattle.view_commands.specs.Steps.{IsUnwritten, OnlyWrote};
+ghost use Rattle.view_commands.specs.Texts.{KeepsText};
 
+use crate::texts::keep_text;
 use edit_ops::{Edit, edit_text};
 use sessions::{Entry, Reason, What};
 use std::alloc::Global;
 use view_base::{Bytes, OutOfMemory};
-use view_ends::{Desk, EndFault, Sink, give_all};
+use view_ends::Desk;
 
-/// Writes the journal of a history to an output that got nothing so far, and keeps it, whatever
-/// came of the writing. `WriteFault` or `Memory` is the first fault of the two.
+/// Writes the journal of a history to an output that got nothing so far, and keeps it, empty where
+/// there is no memory for its text.
 pub(crate) fn write_journal<D: Desk>(
     alloc: Global,
     desk: &mut D,
     name: &str,
-    mut out: D::Out,
+    out: D::Out,
     history: &[Entry],
 ) -> Reason
     requires known { IsKnown (D.says desk.old) name.now }
-    requires empty { IsTrue D.tells → D.Out.got out ≡ Some [] }
-    requires faultless { D.Out.faults out ≡ 0 }
-    ensures { WritesJournal D.tells (D.says desk.old) (D.says desk.new) name.now (journal_text (journal history.now)) result }
+    requires fresh { IsUnwritten D.tells (D.Out.got out) (D.Out.faults out) }
+    ensures kept { KeepsText D.tells (D.says desk.old) (D.says desk.new) name.now (journal_text (journal history.now)) result }
+    ensures only { OnlyWrote (D.says desk.old) (D.says desk.new) name.now }
 {
-    let given = give_journal(alloc, &mut out, history);
-    let kept = desk.keep(name, out);
-    match given {
-        Ok(()) => reason_of(kept),
-        Err(fault) => reason_of(Err(fault)),
+    match journal_text(alloc, history) {
+        Ok(text) => keep_text(desk, name, out, text.as_slice()),
+        Err(OutOfMemory) => match keep_text(desk, name, out, &[]) {
+            Reason::Finished => Reason::Memory,
+            reason => reason,
+        },
     }
-}
-
-/// What came of an output.
-pub(crate) fn reason_of(outcome: Result<(), EndFault>) -> Reason
-    ensures { result ≡ listening.reason_of outcome }
-{
-    match outcome {
-        Ok(()) => Reason::Finished,
-        Err(EndFault::Failed) => Reason::WriteFault,
-        Err(EndFault::Memory) => Reason::Memory,
-    }
-}
-
-/// Gives the journal of a history to an output.
-fn give_journal<S: Sink>(alloc: Global, sink: &mut S, history: &[Entry]) -> Result<(), EndFault>
-    ensures { Gives (S.got sink.old) (S.got sink.new) (S.faults sink.old) (S.faults sink.new) (journal_text (journal history.now)) result }
-{
-    let text = journal_text(alloc, history)?;
-    give_all(sink, text.as_slice())
 }
 
 /// The canonical line and LF of each edit that a history published, in order.
-#[tactic(auto, unfolding(crate::specs::Journal::journal_text, version_store::specs::Histories::journal))]
+#[tactic(auto, unfolding(crate::specs::Serve::journal_text, version_store::specs::Histories::journal))]
 fn journal_text(alloc: Global, history: &[Entry]) -> Result<Bytes, OutOfMemory>
     ensures { IfOk result (λ text. text.items ≡ journal_text (journal history.now)) }
 {
@@ -64,7 +48,7 @@ fn journal_text(alloc: Global, history: &[Entry]) -> Result<Bytes, OutOfMemory>
 }
 
 /// Appends the canonical line and LF of the edit that an entry published, if it did.
-#[tactic(auto, unfolding(crate::specs::Journal::journal_text))]
+#[tactic(auto, unfolding(crate::specs::Serve::journal_text))]
 fn append_entry(entry: &Entry, text: &mut Bytes) -> Result<(), OutOfMemory>
     ensures { OnOk result (text.new.items ≡ text.old.items ++ journal_text (edit_in entry.now.what)) }
 {

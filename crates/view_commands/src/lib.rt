@@ -3,14 +3,14 @@
 #![tactic(auto)]
 
 mod drawing;
-mod files;
 mod informing;
 mod journal;
-mod made;
 mod opening;
+mod places;
 mod running;
 mod serving;
 mod status;
+mod texts;
 mod told;
 
 pub use drawing::draw;

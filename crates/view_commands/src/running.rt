@@ -1,15 +1,17 @@
-ghost use Rattle.std.specs.Prelude.{◌≤◌, length};
+ghost use Rattle.std.specs.Prelude.{◌≡◌, ◌≢◌, ◌≤◌, length};
 ghost use Rattle.view_commands.specs.Run.{Runs, RunsLine, RunsServe};
+ghost use Rattle.view_base.specs.Fitting.{word_at};
 ghost use Rattle.view_words.specs.CommandLine.{IsLine, least_words, texts};
 
 use crate::drawing::draw_line;
 use crate::informing::info_line;
+use crate::opening::Names;
 use crate::serving::serve;
 use crate::status::Status;
 use crate::told::{Ended, Told};
 use std::alloc::Global;
 use view_ends::{Beside, Desk};
-use view_words::{Row, pair_count, read_words};
+use view_words::{Row, pair_count, read_words, text_at, workers};
 
 /// Runs the command that the words of the command line ask for, without the program's name.
 pub fn run<D: Desk, B: Beside>(alloc: Global, words: &[String], desk: &mut D, beside: &B) -> Ended
@@ -54,5 +56,30 @@ fn serve_line<D: Desk, B: Beside>(
     if pair_count(words) != 1 {
         return Ended::only(alloc, Status::NotYet);
     }
-    serve(alloc, words, desk, beside)
+    serve(
+        alloc,
+        names_of(words),
+        workers(Row::Serve, words),
+        desk,
+        beside,
+    )
+}
+
+/// The names of a `serve` with one pair.
+fn names_of(words: &[String]) -> Names
+    requires line { IsLine Row.Serve (texts words.now) }
+    requires one { length words.now ≡ 6 }
+    ensures survey { result.survey.now ≡ word_at (texts words.now) 1 }
+    ensures journal { result.journal.now ≡ word_at (texts words.now) 3 }
+    ensures input { result.input.now ≡ word_at (texts words.now) 4 }
+    ensures output { result.output.now ≡ word_at (texts words.now) 5 }
+    ensures read { result.survey.now ≢ result.input.now }
+    ensures written { result.journal.now ≢ result.output.now }
+{
+    Names {
+        survey: text_at(words, 1),
+        journal: text_at(words, 3),
+        input: text_at(words, 4),
+        output: text_at(words, 5),
+    }
 }

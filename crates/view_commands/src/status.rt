@@ -1,8 +1,11 @@
 ghost use Rattle.std.specs.Prelude.{◌≡◌};
+ghost use Rattle.view_commands.specs.Serve as serve;
 ghost use Rattle.view_commands.specs.Status.{code_of};
 
+use crate::places::{INPUT, JOURNAL, OUTPUT};
 use int_camera::CameraLimit;
 use las_survey::SurveyFault;
+use sessions::Reason;
 use std::fmt;
 
 /// How a command ended. `at` is the place of a word of the command line, from 0.
@@ -49,6 +52,33 @@ pub fn code(status: &Status) -> u8
         Status::SessionLimit { .. } => 10,
         Status::Memory => 11,
         Status::NotYet => 12,
+    }
+}
+
+/// The status after a session: the reason of its end, where it did not finish; else what came of
+/// keeping its output; else what came of the journal.
+pub(crate) fn status_of(ended: Reason, kept: Reason, journal: Reason) -> Status
+    ensures { result ≡ serve.status_of ended kept journal }
+{
+    match status_at(INPUT, OUTPUT, ended) {
+        Status::Done => match status_at(INPUT, OUTPUT, kept) {
+            Status::Done => status_at(JOURNAL, JOURNAL, journal),
+            status => status,
+        },
+        status => status,
+    }
+}
+
+/// The status of a reason, where its input and its output are the words at these places.
+pub(crate) fn status_at(input: u32, output: u32, reason: Reason) -> Status
+    ensures { result ≡ serve.status_at input output reason }
+{
+    match reason {
+        Reason::Finished => Status::Done,
+        Reason::ReadFault => Status::ReadFault { at: input },
+        Reason::SessionLimit => Status::SessionLimit { at: input },
+        Reason::WriteFault => Status::WriteFault { at: output },
+        Reason::Memory => Status::Memory,
     }
 }
 

@@ -1,4 +1,5 @@
-ghost use Rattle.std.specs.Prelude.{◌≡◌, ℕ, List, Some, None, OnOk, OnErr, IfOk, MatchOption};
+ghost use Rattle.std.specs.Prelude.{IsSome, ◌≡◌, ℕ, List, Some, None, OnOk, OnErr, IfOk, MatchOption};
+ghost use Rattle.std.specs.Option.{option_map};
 ghost use Rattle.view_ends.specs.Ends.{AllStay, OthersStay};
 
 use std::alloc::Global;
@@ -35,14 +36,16 @@ impl Files {
         }
     }
 
-    /// A copy of the bytes of a file. A name without a file has no copy, as where memory wants.
-    pub(crate) fn copy_of(&self, name: &str) -> Result<Bytes, OutOfMemory>
-        ensures { IfOk result (λ copy. file_of self.now name.now ≡ Some copy.items) }
+    /// A copy of the bytes of a file, and `None` where there is no such file.
+    pub(crate) fn copy_of(&self, name: &str) -> Result<Option<Bytes>, OutOfMemory>
+        ensures { IfOk result (λ copy. option_map (λ bytes. bytes.items) copy ≡ file_of self.now name.now) }
     {
-        let bytes = self.get(name).ok_or(OutOfMemory)?;
+        let Some(bytes) = self.get(name) else {
+            return Ok(None);
+        };
         let mut copy = Bytes::new(self.alloc);
         copy.append(bytes)?;
-        Ok(copy)
+        Ok(Some(copy))
     }
 
     /// Sets the bytes of a file, which need not be there. A refusal is want of memory.
@@ -57,21 +60,15 @@ impl Files {
         Ok(())
     }
 
-    /// Sets the bytes of a file that is there, which takes no memory, and is refused for a name
-    /// that has no file.
+    /// Sets the bytes of a file that is there, which takes no memory.
     #[tactic(auto, using(std::proofs::lemmas::Map::Text::text_keys))]
-    pub(crate) fn replace(&mut self, name: &str, bytes: Bytes) -> Result<(), OutOfMemory>
-        ensures put { OnOk result (file_of self.new name.now ≡ Some bytes.items) }
+    pub(crate) fn replace(&mut self, name: &str, bytes: Bytes)
+        requires { IsSome (file_of self.old name.now) }
+        ensures put { file_of self.new name.now ≡ Some bytes.items }
         ensures others { OthersStay (file_of self.old) (file_of self.new) name.now }
-        ensures absent { OnErr result (file_of self.old name.now ≡ None) }
-        ensures refused { OnErr result (AllStay (file_of self.old) (file_of self.new)) }
     {
-        match self.files.get_mut(name) {
-            Some(kept) => {
-                *kept = bytes;
-                Ok(())
-            }
-            None => Err(OutOfMemory),
+        if let Some(kept) = self.files.get_mut(name) {
+            *kept = bytes;
         }
     }
 }

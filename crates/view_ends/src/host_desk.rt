@@ -1,24 +1,31 @@
-ghost use Rattle.std.specs.Prelude.{◌≡◌, None, false};
-ghost use Rattle.view_ends.specs.Desk.{IsNew};
+ghost use Rattle.std.specs.Prelude.{◌≡◌, ◌+◌, ◌≤◌, None, false, IfSome, vec_capacity, vec_len};
+ghost use Rattle.view_ends.specs.Calls.{IsNew};
 
 use crate::desk::Desk;
 use crate::fault::EndFault;
 use crate::host_sink::{HostSink, Target};
 use crate::host_source::{HostSource, Origin};
-use crate::ledger::Ledger;
+use crate::ledger::{Counts, Ledger, NOTHING, OPENED, UNOPENED, UNWRITTEN};
+use crate::opened::{Identity, Opened};
 use std::alloc::Global;
-use std::fs;
+use std::fs::{OpenFile, OpenOptions};
 use std::rt::Files;
+use std::{fs, io};
 
 /// The name of standard input and of standard output.
 const STANDARD: &str = "-";
 
 /// The desk of the system: its files, and its standard streams under the name `-`, each of which
 /// can be opened once. It tells no bytes, and counts each error as a fault.
+///
+/// No regular file that this desk opened is opened to write again, by whatever name or link, and
+/// none is opened to read while it is written: the opening fails. An opening to write leaves a
+/// regular file as it is; the file is cut when its first byte is given or when it is kept.
 #[derive(Drop)]
 pub struct HostDesk<R> {
     rt: R,
     ledger: Ledger,
+    opened: Opened,
     input_opened: bool,
     output_opened: bool,
 }
@@ -35,6 +42,7 @@ where
         HostDesk {
             rt,
             ledger: Ledger::new(alloc),
+            opened: Opened::new(alloc),
             input_opened: false,
             output_opened: false,
         }
@@ -42,39 +50,78 @@ where
 }
 
 impl<R: Files + Input + Print + Copy> HostDesk<R> {
-    /// Opens a name for reading, and answers `None` where that failed.
-    fn origin(&mut self, name: &str) -> Option<Origin<R::File, R::Reader>>
-        ensures { self.new.ledger ≡ self.old.ledger }
+    /// Opens standard input, once.
+    fn standard_input(&mut self) -> Option<HostSource<R::File, R::Reader>>
+        ensures ledger { self.new.ledger ≡ self.old.ledger }
+        ensures fresh { IfSome result (λ input. (input.taken ≡ 0) × (input.faults ≡ 0)) }
     {
-        if name != STANDARD {
-            return match fs::open(&self.rt, name) {
-                Ok(file) => Some(Origin::File(file)),
-                Err(_) => None,
-            };
-        }
         if self.input_opened {
             return None;
         }
         self.input_opened = true;
-        Some(Origin::Standard(self.rt.reader()))
+        Some(HostSource::new(Origin::Standard(self.rt.reader()), 0))
     }
 
-    /// Opens a name for writing, as an empty file, and answers `None` where that failed.
-    fn target(&mut self, name: &str) -> Option<Target<R::File, R>>
-        ensures { self.new.ledger ≡ self.old.ledger }
+    /// Opens standard output, once.
+    fn standard_output(&mut self) -> Option<HostSink<R::File, R>>
+        ensures ledger { self.new.ledger ≡ self.old.ledger }
+        ensures fresh { IfSome result (λ out. out.faults ≡ 0) }
     {
-        if name != STANDARD {
-            return match fs::create(&self.rt, name) {
-                Ok(file) => Some(Target::File(file)),
-                Err(_) => None,
-            };
-        }
         if self.output_opened {
             return None;
         }
         self.output_opened = true;
-        Some(Target::Standard(self.rt))
+        Some(HostSink::new(Target::Standard(self.rt), None))
     }
+
+    /// Opens a name for reading, and answers `None` where that failed or the file is written.
+    fn input(&mut self, name: &str) -> Option<HostSource<R::File, R::Reader>>
+        requires { vec_len self.old.opened.uses + 1 ≤ vec_capacity self.old.opened.uses }
+        ensures ledger { self.new.ledger ≡ self.old.ledger }
+        ensures fresh { IfSome result (λ input. (input.taken ≡ 0) × (input.faults ≡ 0)) }
+    {
+        if name == STANDARD {
+            return self.standard_input();
+        }
+        let file = fs::open(&self.rt, name).ok()?;
+        let about = file.metadata().ok()?;
+        let mut length = 0;
+        if let Some(identity) = Identity::of(&about) {
+            if self.opened.is_written(identity) {
+                return None;
+            }
+            self.opened.note(identity, false);
+            length = about.len();
+        }
+        Some(HostSource::new(Origin::File(file), length))
+    }
+
+    /// Opens a name for writing, and answers `None` where that failed or the file was opened.
+    fn output(&mut self, name: &str) -> Option<HostSink<R::File, R>>
+        requires { vec_len self.old.opened.uses + 1 ≤ vec_capacity self.old.opened.uses }
+        ensures ledger { self.new.ledger ≡ self.old.ledger }
+        ensures fresh { IfSome result (λ out. out.faults ≡ 0) }
+    {
+        if name == STANDARD {
+            return self.standard_output();
+        }
+        let file = open_uncut(&self.rt, name).ok()?;
+        let identity = Identity::of(&file.metadata().ok()?);
+        if let Some(identity) = identity {
+            if self.opened.has(identity) {
+                return None;
+            }
+            self.opened.note(identity, true);
+        }
+        Some(HostSink::new(Target::File(file), identity))
+    }
+}
+
+/// Opens a file for writing, and makes it where it isn't there. It keeps its bytes.
+fn open_uncut<R: Files>(rt: &R, name: &str) -> io::Result<R::File> {
+    let mut how = OpenOptions::new();
+    how.write(true).create(true);
+    how.open(rt, name)
 }
 
 impl<R: Files + Input + Print + Copy + Send> Desk for HostDesk<R>
@@ -93,95 +140,63 @@ where
     ghost says = { λ d. said (λ _. None) d.ledger };
 
     fn open_in(&mut self, name: &str) -> Result<HostSource<R::File, R::Reader>, EndFault> {
+        self.opened.reserve()?;
         self.ledger.enter(name)?;
-        match self.origin(name) {
-            Some(origin) => Ok(HostSource::new(origin)),
+        match self.input(name) {
+            Some(input) => {
+                self.ledger.add(name, OPENED);
+                Ok(input)
+            }
             None => {
-                self.ledger.add_unopened(name);
+                self.ledger.add(name, UNOPENED);
                 Err(EndFault::Failed)
             }
         }
     }
 
+    #[tactic(auto, using(crate::proofs::Known::entered_if_known))]
     fn shut(&mut self, name: &str, input: HostSource<R::File, R::Reader>) {
-        self.ledger.add_taken(name, input.taken());
-        self.ledger.add_read_faults(name, input.faults());
+        let counts = Counts {
+            taken: input.taken(),
+            read_faults: input.faults(),
+            ..NOTHING
+        };
+        self.ledger.add(name, counts);
     }
 
     fn open_out(&mut self, name: &str) -> Result<HostSink<R::File, R>, EndFault> {
+        self.opened.reserve()?;
         self.ledger.enter(name)?;
-        match self.target(name) {
-            Some(target) => Ok(HostSink::new(target)),
+        match self.output(name) {
+            Some(out) => {
+                self.ledger.add(name, OPENED);
+                Ok(out)
+            }
             None => {
-                self.ledger.add_write_faults(name, 1);
+                self.ledger.add(name, UNWRITTEN);
                 Err(EndFault::Failed)
             }
         }
     }
 
+    #[tactic(auto, using(crate::proofs::Known::entered_if_known))]
     fn keep(&mut self, name: &str, mut out: HostSink<R::File, R>) -> Result<(), EndFault> {
-        self.ledger.add_write_faults(name, out.faults());
-        if out.flush().is_err() {
-            self.ledger.add_write_faults(name, 1);
-            self.ledger.add_unkept(name);
+        let write_faults = out.faults();
+        if out.finish().is_err() {
+            self.ledger.add(name, Counts::refused(write_faults));
             return Err(EndFault::Failed);
         }
+        if let Some(file) = out.file() {
+            self.opened.close(file);
+        }
+        let counts = Counts {
+            write_faults,
+            ..NOTHING
+        };
+        self.ledger.add(name, counts);
         Ok(())
     }
 }
 
 #[cfg(test)]
-mod tests {
-    use super::*;
-    use crate::giving::give_all;
-    use crate::source::Source;
-    use std::alloc::Global;
-    use std::test::Fail;
-    use std::{env, process};
-
-    fn scratch(rt: HostRuntime, what: &str) -> Result<String, Fail> {
-        let dir = env::temp_dir(&rt)?;
-        let dir = dir.as_str();
-        let id = process::id(rt.process());
-        let alloc: Global = rt.alloc();
-        Ok(format!(in alloc; "{dir}/view_ends_{id}_{what}")?)
-    }
-
-    #[test]
-    fn what_was_kept_is_taken_again(rt: HostRuntime) -> Result<(), Fail> {
-        let name = scratch(rt, "kept")?;
-        let mut desk = HostDesk::new(rt, rt.alloc());
-        let mut out = desk.open_out(name.as_str())?;
-        give_all(&mut out, b"a dozen bytes")?;
-        desk.keep(name.as_str(), out)?;
-        let mut input = desk.open_in(name.as_str())?;
-        let mut buf = [0; 16];
-        let n = input.take(&mut buf)?;
-        assert_eq!(rt; &buf[..n], b"a dozen bytes".as_slice());
-        assert_eq!(rt; input.take(&mut buf)?, 0);
-        desk.shut(name.as_str(), input);
-        fs::remove_file(&rt, name.as_str())?;
-        Ok(())
-    }
-
-    #[test]
-    fn a_name_below_no_folder_fails(rt: HostRuntime) -> Result<(), Fail> {
-        let name = scratch(rt, "none/file")?;
-        let mut desk = HostDesk::new(rt, rt.alloc());
-        assert_eq!(rt; desk.open_in(name.as_str()).err(), Some(EndFault::Failed));
-        assert_eq!(rt; desk.open_out(name.as_str()).err(), Some(EndFault::Failed));
-        Ok(())
-    }
-
-    #[test]
-    fn each_standard_stream_opens_once(rt: HostRuntime) -> Result<(), Fail> {
-        let mut desk = HostDesk::new(rt, rt.alloc());
-        let input = desk.open_in("-")?;
-        assert_eq!(rt; desk.open_in("-").err(), Some(EndFault::Failed));
-        desk.shut("-", input);
-        let out = desk.open_out("-")?;
-        assert_eq!(rt; desk.open_out("-").err(), Some(EndFault::Failed));
-        desk.keep("-", out)?;
-        Ok(())
-    }
-}
+mod tests;

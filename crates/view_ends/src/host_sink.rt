@@ -2,7 +2,9 @@ ghost use Rattle.std.specs.Prelude.{◌≡◌, ◌+◌, ◌-◌, ◌^◌, ◌<�
 ghost use Rattle.std.specs.Io.{WritesAtMost};
 
 use crate::fault::EndFault;
+use crate::opened::Identity;
 use crate::sink::Sink;
+use std::fs::OpenFile;
 use std::io;
 use std::io::{Error, ErrorKind, Write};
 
@@ -33,18 +35,34 @@ impl<F: Write, P: Print> Target<F, P> {
 }
 
 /// An opened output of the system, without a buffer. It tells no bytes, counts each error as a
-/// fault and a write that takes nothing too, and writes again where a signal cut a write short.
+/// fault and a write that takes nothing too, and writes again where a signal cut a write short. A
+/// regular file is cut when its first byte is given or when it is kept, and not before.
 #[derive(Drop)]
 pub struct HostSink<F, P> {
     target: Target<F, P>,
+    file: Option<Identity>,
+    uncut: bool,
     faults: u64,
 }
 
-impl<F: Write, P: Print> HostSink<F, P> {
-    pub(crate) fn new(target: Target<F, P>) -> HostSink<F, P>
+impl<F: Write + OpenFile, P: Print> HostSink<F, P> {
+    /// An output that got nothing yet, and which regular file it is.
+    pub(crate) fn new(target: Target<F, P>, file: Option<Identity>) -> HostSink<F, P>
         ensures { result.faults ≡ 0 }
     {
-        HostSink { target, faults: 0 }
+        HostSink {
+            target,
+            file,
+            uncut: file.is_some(),
+            faults: 0,
+        }
+    }
+
+    /// The regular file that is written.
+    pub(crate) fn file(&self) -> Option<Identity>
+        ensures { result ≡ self.now.file }
+    {
+        self.file
     }
 
     pub(crate) fn faults(&self) -> u64
@@ -53,8 +71,33 @@ impl<F: Write, P: Print> HostSink<F, P> {
         self.faults
     }
 
-    /// Hands on whatever a writer of the system still holds back. Standard output holds nothing.
-    pub(crate) fn flush(&mut self) -> io::Result<()> {
+    /// Cuts a regular file that still has the bytes that it had when it was opened.
+    fn cut(&mut self) -> io::Result<()>
+        ensures { self.new.faults ≡ self.old.faults }
+    {
+        if !self.uncut {
+            return Ok(());
+        }
+        if let Target::File(file) = &self.target {
+            file.set_len(0)?;
+        }
+        self.uncut = false;
+        Ok(())
+    }
+
+    /// Cuts the file, where that is still to do, and writes.
+    fn write(&mut self, piece: &[u8]) -> io::Result<usize>
+        ensures written { WritesAtMost result piece.now }
+        ensures faults { self.new.faults ≡ self.old.faults }
+    {
+        self.cut()?;
+        self.target.write_again(piece)
+    }
+
+    /// Hands on whatever a writer of the system still holds back, and leaves an output that got
+    /// nothing empty. Standard output holds nothing.
+    pub(crate) fn finish(&mut self) -> io::Result<()> {
+        self.cut()?;
         match &mut self.target {
             Target::File(file) => file.flush(),
             Target::Standard(_) => Ok(()),
@@ -62,7 +105,7 @@ impl<F: Write, P: Print> HostSink<F, P> {
     }
 }
 
-impl<F: Write, P: Print> Sink for HostSink<F, P> {
+impl<F: Write + OpenFile, P: Print> Sink for HostSink<F, P> {
     ghost got = { λ _. None };
 
     ghost faults = { λ s. s.faults };
@@ -71,7 +114,7 @@ impl<F: Write, P: Print> Sink for HostSink<F, P> {
         if piece.is_empty() {
             return Ok(0);
         }
-        match self.target.write_again(piece) {
+        match self.write(piece) {
             Ok(n) if 0 < n => Ok(n),
             _ => {
                 self.faults = self.faults.saturating_add(1);

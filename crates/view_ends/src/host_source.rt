@@ -9,6 +9,9 @@ use std::io::{Error, ErrorKind, Read};
 /// How many bytes are taken from one input at most: a take after as many fails.
 const MOST_TAKEN: u64 = 1 << 63;
 
+/// How many bytes of one input are expected at most: one more than the longest file that is read.
+const MOST_EXPECTED: u64 = (1 << 30) + 1;
+
 /// Where the bytes come from: a file, or standard input.
 #[derive(Drop)]
 pub(crate) enum Origin<F, I> {
@@ -40,18 +43,21 @@ impl<F: Read, I: Read> Origin<F, I> {
 #[derive(Drop)]
 pub struct HostSource<F, I> {
     origin: Origin<F, I>,
+    length: u64,
     taken: u64,
     faults: u64,
     ghost most: { taken ≤ 2 ^ 63 },
 }
 
 impl<F: Read, I: Read> HostSource<F, I> {
-    pub(crate) fn new(origin: Origin<F, I>) -> HostSource<F, I>
+    /// An input of which nothing was taken yet, whose length is 0 where the system knows none.
+    pub(crate) fn new(origin: Origin<F, I>, length: u64) -> HostSource<F, I>
         ensures taken { result.taken ≡ 0 }
         ensures faults { result.faults ≡ 0 }
     {
         HostSource {
             origin,
+            length,
             taken: 0,
             faults: 0,
         }
@@ -99,5 +105,9 @@ impl<F: Read, I: Read> Source for HostSource<F, I> {
             }
             Err(_) => Err(self.fail()),
         }
+    }
+
+    fn expected(&self) -> u64 {
+        self.length.saturating_sub(self.taken).min(MOST_EXPECTED)
     }
 }

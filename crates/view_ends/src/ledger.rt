@@ -5,7 +5,8 @@ use std::alloc::Global;
 use std::collections::BTreeMap;
 use view_base::OutOfMemory;
 
-/// What a desk counted of one name. Each count stands still at the last value of its type.
+/// What a desk counted of one name, each count up to the last value of its type, and whether the
+/// name was opened.
 #[derive(Clone, Copy, Debug, PartialEq, Eq)]
 pub(crate) struct Counts {
     pub(crate) unopened: u64,
@@ -13,15 +14,66 @@ pub(crate) struct Counts {
     pub(crate) write_faults: u64,
     pub(crate) taken: u64,
     pub(crate) unkept: u64,
+    pub(crate) known: bool,
 }
 
-const NOTHING: Counts = Counts {
+/// Nothing counted.
+pub(crate) const NOTHING: Counts = Counts {
     unopened: 0,
     read_faults: 0,
     write_faults: 0,
     taken: 0,
     unkept: 0,
+    known: false,
 };
+
+/// A name that was opened.
+pub(crate) const OPENED: Counts = Counts {
+    known: true,
+    ..NOTHING
+};
+
+/// A name that could not be opened for reading.
+pub(crate) const UNOPENED: Counts = Counts {
+    unopened: 1,
+    ..NOTHING
+};
+
+/// A name that could not be opened for writing.
+pub(crate) const UNWRITTEN: Counts = Counts {
+    write_faults: 1,
+    ..NOTHING
+};
+
+impl Counts {
+    ghost use Rattle.view_ends.specs.Ledger.{AreCounts, nothing_counted, plus};
+
+    /// The counts of an output that failed so often, and then could not be kept.
+    pub(crate) fn refused(faults: u64) -> Counts
+        ensures { result ≡ record nothing_counted { write_faults = min (faults + 1) (2 ^ 64 - 1); unkept = 1 } }
+    {
+        Counts {
+            write_faults: faults.saturating_add(1),
+            unkept: 1,
+            ..NOTHING
+        }
+    }
+
+    /// These counts and what comes to them.
+    fn plus(self, more: Counts) -> Counts
+        ensures fits { AreCounts self }
+        ensures sum { result ≡ plus self more }
+    {
+        Counts {
+            unopened: self.unopened.saturating_add(more.unopened),
+            read_faults: self.read_faults.saturating_add(more.read_faults),
+            write_faults: self.write_faults.saturating_add(more.write_faults),
+            taken: self.taken.saturating_add(more.taken),
+            unkept: self.unkept.saturating_add(more.unkept),
+            known: self.known || more.known,
+        }
+    }
+}
 
 /// The counts of each name that was entered. A name that wasn't has all counts 0.
 #[derive(Drop)]
@@ -31,7 +83,7 @@ pub(crate) struct Ledger {
 }
 
 impl Ledger {
-    ghost use Rattle.view_ends.specs.Ledger.{counts_of, nothing_counted, IsEntered};
+    ghost use Rattle.view_ends.specs.Ledger.{counts_of, nothing_counted, IsEntered, AreCounts, plus};
 
     /// No name is entered.
     pub(crate) fn new(alloc: Global) -> Ledger
@@ -65,68 +117,15 @@ impl Ledger {
         Ok(())
     }
 
-    /// Counts one more refusal to open a name that was entered for reading.
-    pub(crate) fn add_unopened(&mut self, name: &str)
+    /// Adds to the counts of a name that was entered.
+    pub(crate) fn add(&mut self, name: &str, more: Counts)
         requires { IsEntered self.old name.now }
-        ensures fits { (counts_of self.old name.now).unopened < 2 ^ 64 }
-        ensures this { counts_of self.new name.now ≡ record (counts_of self.old name.now) { unopened = min ((counts_of self.old name.now).unopened + 1) (2 ^ 64 - 1) } }
+        ensures fits { AreCounts (counts_of self.old name.now) }
+        ensures this { counts_of self.new name.now ≡ plus (counts_of self.old name.now) more }
         ensures others { OthersStay (counts_of self.old) (counts_of self.new) name.now }
         ensures entered { NoneForgotten (IsEntered self.old) (IsEntered self.new) }
     {
-        let mut counts = self.of(name);
-        counts.unopened = counts.unopened.saturating_add(1);
-        self.set(name, counts);
-    }
-
-    /// Counts `n` more failed reads of a name that was entered.
-    pub(crate) fn add_read_faults(&mut self, name: &str, n: u64)
-        requires { IsEntered self.old name.now }
-        ensures fits { (counts_of self.old name.now).read_faults < 2 ^ 64 }
-        ensures this { counts_of self.new name.now ≡ record (counts_of self.old name.now) { read_faults = min ((counts_of self.old name.now).read_faults + n) (2 ^ 64 - 1) } }
-        ensures others { OthersStay (counts_of self.old) (counts_of self.new) name.now }
-        ensures entered { NoneForgotten (IsEntered self.old) (IsEntered self.new) }
-    {
-        let mut counts = self.of(name);
-        counts.read_faults = counts.read_faults.saturating_add(n);
-        self.set(name, counts);
-    }
-
-    /// Counts `n` more failed writes of a name that was entered.
-    pub(crate) fn add_write_faults(&mut self, name: &str, n: u64)
-        requires { IsEntered self.old name.now }
-        ensures fits { (counts_of self.old name.now).write_faults < 2 ^ 64 }
-        ensures this { counts_of self.new name.now ≡ record (counts_of self.old name.now) { write_faults = min ((counts_of self.old name.now).write_faults + n) (2 ^ 64 - 1) } }
-        ensures others { OthersStay (counts_of self.old) (counts_of self.new) name.now }
-        ensures entered { NoneForgotten (IsEntered self.old) (IsEntered self.new) }
-    {
-        let mut counts = self.of(name);
-        counts.write_faults = counts.write_faults.saturating_add(n);
-        self.set(name, counts);
-    }
-
-    /// Counts `n` more bytes taken from a name that was entered.
-    pub(crate) fn add_taken(&mut self, name: &str, n: u64)
-        requires { IsEntered self.old name.now }
-        ensures fits { (counts_of self.old name.now).taken < 2 ^ 64 }
-        ensures this { counts_of self.new name.now ≡ record (counts_of self.old name.now) { taken = min ((counts_of self.old name.now).taken + n) (2 ^ 64 - 1) } }
-        ensures others { OthersStay (counts_of self.old) (counts_of self.new) name.now }
-        ensures entered { NoneForgotten (IsEntered self.old) (IsEntered self.new) }
-    {
-        let mut counts = self.of(name);
-        counts.taken = counts.taken.saturating_add(n);
-        self.set(name, counts);
-    }
-
-    /// Counts one more refusal to keep a name that was entered.
-    pub(crate) fn add_unkept(&mut self, name: &str)
-        requires { IsEntered self.old name.now }
-        ensures fits { (counts_of self.old name.now).unkept < 2 ^ 64 }
-        ensures this { counts_of self.new name.now ≡ record (counts_of self.old name.now) { unkept = min ((counts_of self.old name.now).unkept + 1) (2 ^ 64 - 1) } }
-        ensures others { OthersStay (counts_of self.old) (counts_of self.new) name.now }
-        ensures entered { NoneForgotten (IsEntered self.old) (IsEntered self.new) }
-    {
-        let mut counts = self.of(name);
-        counts.unkept = counts.unkept.saturating_add(1);
+        let counts = self.of(name).plus(more);
         self.set(name, counts);
     }
 

@@ -16,6 +16,7 @@ mod ledger;
 mod mem_desk;
 mod mem_sink;
 mod mem_source;
+mod opened;
 mod plans;
 mod sink;
 mod source;

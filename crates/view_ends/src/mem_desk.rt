@@ -1,13 +1,16 @@
-ghost use Rattle.std.specs.Prelude.{◌≡◌, Some, None, true, MatchOption};
-ghost use Rattle.view_ends.specs.Desk.{IsNew, Puts, Untouched};
+ghost use Rattle.std.specs.Prelude.{◌≡◌, Some, None, true, MatchOption, IfOk, OnOk, IsSome, IsTrue};
+ghost use Rattle.view_ends.specs.Calls.{IsNew, Puts, IsFreshIn, IsFreshOut, OpensIn, Shuts, OpensOut, Keeps};
+ghost use Rattle.view_ends.specs.Desk.{IsKnown, Untouched};
+ghost use Rattle.view_ends.specs.Memory.{mem_desk, mem_sink, mem_source};
+ghost use Rattle.view_ends.specs.Plans.{planned_on, Plan, PlansStay, NonePlanned, OpensInAsPlanned, OpensOutAsPlanned, KeepsAsPlanned};
 
 use crate::desk::Desk;
 use crate::fault::EndFault;
 use crate::files::Files;
-use crate::ledger::Ledger;
+use crate::ledger::{Counts, Ledger, NOTHING, OPENED, UNOPENED, UNWRITTEN};
 use crate::mem_sink::MemSink;
 use crate::mem_source::MemSource;
-use crate::plans::{DeskCall, Plans};
+use crate::plans::{DeskCall, DeskPlans};
 use std::alloc::Global;
 use view_base::{Bytes, OutOfMemory};
 
@@ -18,67 +21,69 @@ pub struct MemDesk {
     alloc: Global,
     files: Files,
     ledger: Ledger,
-    plans: Plans,
+    plans: DeskPlans,
 }
 
 impl MemDesk {
     /// A desk without files, of which no call is to fail.
     pub fn new(alloc: Global) -> MemDesk
-        ensures { IsNew (⟦<MemDesk as Desk>⟧.says result) }
+        ensures new { IsNew (mem_desk result) }
+        ensures planned { NonePlanned (planned_on result) }
     {
         MemDesk {
             alloc,
             files: Files::new(alloc),
             ledger: Ledger::new(alloc),
-            plans: Plans::new(alloc),
+            plans: DeskPlans::new(alloc),
         }
     }
 
     /// Puts a file on the desk, in place of one of this name. After an `Err` no file changed.
     pub fn put(&mut self, name: &str, bytes: Bytes) -> Result<(), OutOfMemory>
-        ensures put { Puts (⟦<MemDesk as Desk>⟧.says self.old) (⟦<MemDesk as Desk>⟧.says self.new) name.now bytes.items result }
+        ensures put { Puts (mem_desk self.old) (mem_desk self.new) name.now bytes.items result }
+        ensures planned { PlansStay (planned_on self.old) (planned_on self.new) }
     {
         self.files.put(name, bytes)
     }
 
     /// The bytes of a file, and `None` where there is no such file.
     pub fn bytes_of(&self, name: &str) -> Option<&[u8]>
-        ensures { MatchOption result ((⟦<MemDesk as Desk>⟧.says self.now).file name.now ≡ None) (λ bytes. (⟦<MemDesk as Desk>⟧.says self.now).file name.now ≡ Some bytes.now) }
+        ensures { MatchOption result ((mem_desk self.now).file name.now ≡ None) (λ bytes. (mem_desk self.now).file name.now ≡ Some bytes.now) }
     {
         self.files.get(name)
     }
 
     /// How often a name was not opened for reading.
     pub fn unopened(&self, name: &str) -> u64
-        ensures { result ≡ (⟦<MemDesk as Desk>⟧.says self.now).unopened name.now }
+        ensures { result ≡ (mem_desk self.now).unopened name.now }
     {
         self.ledger.of(name).unopened
     }
 
     /// How often reading of a name failed.
     pub fn read_faults(&self, name: &str) -> u64
-        ensures { result ≡ (⟦<MemDesk as Desk>⟧.says self.now).reads name.now }
+        ensures { result ≡ (mem_desk self.now).reads name.now }
     {
         self.ledger.of(name).read_faults
     }
 
     /// How often writing of a name failed.
     pub fn write_faults(&self, name: &str) -> u64
-        ensures { result ≡ (⟦<MemDesk as Desk>⟧.says self.now).writes name.now }
+        ensures { result ≡ (mem_desk self.now).writes name.now }
     {
         self.ledger.of(name).write_faults
     }
 
     /// How many bytes were taken from the inputs of a name that were shut.
     pub fn taken(&self, name: &str) -> u64
-        ensures { result ≡ (⟦<MemDesk as Desk>⟧.says self.now).taken name.now }
+        ensures { result ≡ (mem_desk self.now).taken name.now }
     {
         self.ledger.of(name).taken
     }
 
     /// How often the keeping of a name was refused.
     pub fn unkept(&self, name: &str) -> u64
-        ensures { result ≡ (⟦<MemDesk as Desk>⟧.says self.now).unkept name.now }
+        ensures { result ≡ (mem_desk self.now).unkept name.now }
     {
         self.ledger.of(name).unkept
     }
@@ -87,65 +92,91 @@ impl MemDesk {
     /// that is a call of the next end opened of this name, when just `at` bytes were taken or
     /// given; for the other calls `at` says nothing.
     pub fn fail(&mut self, name: &str, call: DeskCall, at: u64) -> Result<(), OutOfMemory>
-        ensures desk { Untouched (⟦<MemDesk as Desk>⟧.says self.old) (⟦<MemDesk as Desk>⟧.says self.new) }
+        ensures desk { Untouched (mem_desk self.old) (mem_desk self.new) }
+        ensures planned { Plan (planned_on self.old) (planned_on self.new) name.now call at result }
     {
         self.plans.add(name, call, at)
     }
 }
 
 impl Desk for MemDesk {
-    ghost use Rattle.view_ends.specs.Files.{file_of};
-    ghost use Rattle.view_ends.specs.Ledger.{said};
-
     type In = MemSource;
 
     type Out = MemSink;
 
     ghost tells = { true };
 
-    ghost says = { λ d. said (file_of d.files) d.ledger };
+    ghost says = { mem_desk };
 
-    fn open_in(&mut self, name: &str) -> Result<MemSource, EndFault> {
+    fn open_in(&mut self, name: &str) -> Result<MemSource, EndFault>
+        ensures fresh { IfOk result (λ input. IsFreshIn ((mem_desk self.old).file name.now) (mem_source input).left (mem_source input).taken (mem_source input).faults) }
+        ensures there { OnOk result (IsSome ((mem_desk self.old).file name.now)) }
+        ensures desk { OpensIn (mem_desk self.old) (mem_desk self.new) name.now result }
+        ensures planned { OpensInAsPlanned (planned_on self.old) (planned_on self.new) name.now ((mem_desk self.old).file name.now) result }
+    {
+        let copy = self.files.copy_of(name)?;
         self.ledger.enter(name)?;
-        if self.plans.strike(name, DeskCall::OpenIn) || self.files.get(name).is_none() {
-            self.ledger.add_unopened(name);
-            return Err(EndFault::Failed);
+        let planned = self.plans.open_in.strike(name);
+        match copy {
+            Some(bytes) if !planned => {
+                self.ledger.add(name, OPENED);
+                let fail_at = self.plans.take.hand_on(name);
+                Ok(MemSource::new(bytes, fail_at))
+            }
+            _ => {
+                self.ledger.add(name, UNOPENED);
+                Err(EndFault::Failed)
+            }
         }
-        let bytes = self.files.copy_of(name)?;
-        let fail_at = self.plans.places(name, DeskCall::Take)?;
-        self.plans.forget(name, DeskCall::Take);
-        Ok(MemSource::new(bytes, fail_at))
     }
 
-    fn shut(&mut self, name: &str, input: MemSource) {
-        self.ledger.add_taken(name, input.taken());
-        self.ledger.add_read_faults(name, input.faults());
+    #[tactic(auto, using(crate::proofs::Known::known_and_filed))]
+    fn shut(&mut self, name: &str, input: MemSource)
+        requires { IsKnown (mem_desk self.old) name.now }
+        ensures desk { Shuts (mem_desk self.old) (mem_desk self.new) name.now (mem_source input).taken (mem_source input).faults }
+        ensures planned { PlansStay (planned_on self.old) (planned_on self.new) }
+    {
+        let counts = Counts {
+            taken: input.taken(),
+            read_faults: input.faults(),
+            ..NOTHING
+        };
+        self.ledger.add(name, counts);
     }
 
-    fn open_out(&mut self, name: &str) -> Result<MemSink, EndFault> {
+    fn open_out(&mut self, name: &str) -> Result<MemSink, EndFault>
+        ensures fresh { IfOk result (λ out. IsFreshOut true ((mem_desk self.new).file name.now) (mem_sink out).got (mem_sink out).faults) }
+        ensures desk { OpensOut (mem_desk self.old) (mem_desk self.new) name.now result }
+        ensures planned { OpensOutAsPlanned (planned_on self.old) (planned_on self.new) name.now result }
+    {
         self.ledger.enter(name)?;
-        if self.plans.strike(name, DeskCall::OpenOut) {
-            self.ledger.add_write_faults(name, 1);
+        if self.plans.open_out.strike(name) {
+            self.ledger.add(name, UNWRITTEN);
             return Err(EndFault::Failed);
         }
-        let fail_at = self.plans.places(name, DeskCall::Give)?;
         self.files.put(name, Bytes::new(self.alloc))?;
-        self.plans.forget(name, DeskCall::Give);
+        self.ledger.add(name, OPENED);
+        let fail_at = self.plans.give.hand_on(name);
         Ok(MemSink::new(self.alloc, fail_at))
     }
 
-    fn keep(&mut self, name: &str, out: MemSink) -> Result<(), EndFault> {
-        self.ledger.add_write_faults(name, out.faults());
-        if self.plans.strike(name, DeskCall::Keep) {
-            self.ledger.add_write_faults(name, 1);
-            self.ledger.add_unkept(name);
+    #[tactic(auto, using(crate::proofs::Known::known_and_filed))]
+    fn keep(&mut self, name: &str, out: MemSink) -> Result<(), EndFault>
+        requires { IsKnown (mem_desk self.old) name.now }
+        ensures desk { Keeps (mem_desk self.old) (mem_desk self.new) name.now (mem_sink out).got (mem_sink out).faults result }
+        ensures planned { KeepsAsPlanned (planned_on self.old) (planned_on self.new) name.now result }
+    {
+        let faults = out.faults();
+        if self.plans.keep.strike(name) {
+            self.ledger.add(name, Counts::refused(faults));
             return Err(EndFault::Failed);
         }
-        // Only a name whose opening was refused has no file by now.
-        if self.files.replace(name, out.into_bytes()).is_err() {
-            self.ledger.add_unkept(name);
-            return Err(EndFault::Memory);
-        }
+        self.files.replace(name, out.into_bytes());
+        let counts = Counts {
+            write_faults: faults,
+            ..NOTHING
+        };
+        self.ledger.add(name, counts);
         Ok(())
     }
 }
@@ -155,6 +186,7 @@ mod tests {
     use super::*;
     use crate::giving::give_all;
     use crate::source::Source;
+    use std::process::Abort;
     use std::test::Fail;
 
     fn copy<D: Desk>(desk: &mut D, from: &str, to: &str) -> Result<(), EndFault> {
@@ -171,58 +203,92 @@ mod tests {
         given
     }
 
+    /// Puts the file "a" on a desk.
+    fn put_a(alloc: Global, desk: &mut MemDesk) -> Result<(), Fail> {
+        let mut bytes = Bytes::new(alloc);
+        bytes.append(b"bytes")?;
+        Ok(desk.put("a", bytes)?)
+    }
+
+    /// The refused openings and the failed reads of "a", the failed writes and the refusals of "b".
+    fn counted(desk: &MemDesk) -> [u64; 4] {
+        [
+            desk.unopened("a"),
+            desk.read_faults("a"),
+            desk.write_faults("b"),
+            desk.unkept("b"),
+        ]
+    }
+
+    /// Copies "a" while this call fails, which leaves this file and these counts.
+    fn fails(
+        rt: &impl Abort,
+        desk: &mut MemDesk,
+        call: DeskCall,
+        left: Option<&[u8]>,
+        counts: [u64; 4],
+    ) {
+        assert_eq!(rt; copy(desk, "a", "b"), Err(EndFault::Failed), "at {call:?}");
+        assert_eq!(rt; desk.bytes_of("b"), left, "at {call:?}");
+        assert_eq!(rt; counted(desk), counts, "at {call:?}");
+    }
+
+    /// Copies "a" where no call fails any more.
+    fn works(rt: &impl Abort, desk: &mut MemDesk, call: DeskCall) {
+        assert_eq!(rt; copy(desk, "a", "b"), Ok(()), "after {call:?}");
+        holds(rt, desk, b"bytes");
+    }
+
+    /// Lets one call on a name fail, on a desk of its own.
+    fn tried(
+        rt: &impl Abort,
+        alloc: Global,
+        name: &str,
+        call: DeskCall,
+        left: Option<&[u8]>,
+        counts: [u64; 4],
+    ) -> Result<(), Fail> {
+        let mut desk = MemDesk::new(alloc);
+        put_a(alloc, &mut desk)?;
+        desk.fail(name, call, 0)?;
+        fails(rt, &mut desk, call, left, counts);
+        works(rt, &mut desk, call);
+        Ok(())
+    }
+
     #[test]
     fn each_call_fails_once(rt: HostRuntime) -> Result<(), Fail> {
-        let cases = [
+        let empty = b"".as_slice();
+        for (call, name, left, counts) in [
             (DeskCall::OpenIn, "a", None, [1, 0, 0, 0]),
             (DeskCall::Take, "a", None, [0, 1, 0, 0]),
             (DeskCall::OpenOut, "b", None, [0, 0, 1, 0]),
-            (DeskCall::Give, "b", Some(""), [0, 0, 1, 0]),
-            (DeskCall::Keep, "b", Some(""), [0, 0, 1, 1]),
-        ];
-        for (call, name, left, counts) in cases {
-            let mut desk = MemDesk::new(rt.alloc());
-            let mut bytes = Bytes::new(rt.alloc());
-            bytes.append(b"bytes")?;
-            desk.put("a", bytes)?;
-            desk.fail(name, call, 0)?;
-            assert_eq!(rt;
-                copy(&mut desk, "a", "b"),
-                Err(EndFault::Failed),
-                "at {call:?}"
-            );
-            assert_eq!(rt;
-                desk.bytes_of("b"),
-                left.map(|text| text.as_bytes()),
-                "at {call:?}"
-            );
-            let counted = [
-                desk.unopened("a"),
-                desk.read_faults("a"),
-                desk.write_faults("b"),
-                desk.unkept("b"),
-            ];
-            assert_eq!(rt; counted, counts, "at {call:?}");
-            assert_eq!(rt; copy(&mut desk, "a", "b"), Ok(()), "after {call:?}");
-            assert_eq!(rt;
-                desk.bytes_of("b"),
-                Some(b"bytes".as_slice()),
-                "after {call:?}"
-            );
+            (DeskCall::Give, "b", Some(empty), [0, 0, 1, 0]),
+            (DeskCall::Keep, "b", Some(empty), [0, 0, 1, 1]),
+        ] {
+            tried(&rt, rt.alloc(), name, call, left, counts)?;
         }
+        Ok(())
+    }
+
+    /// The desk has to hold these bytes as "b".
+    fn holds(rt: &impl Abort, desk: &MemDesk, bytes: &[u8]) {
+        assert_eq!(rt; desk.bytes_of("b"), Some(bytes));
+    }
+
+    /// Copies no file, and then one of which only three bytes are given.
+    fn stops(rt: &impl Abort, alloc: Global, desk: &mut MemDesk) -> Result<(), Fail> {
+        assert_eq!(rt; copy(desk, "a", "b"), Err(EndFault::Failed));
+        put_a(alloc, desk)?;
+        desk.fail("b", DeskCall::Give, 3)?;
+        assert_eq!(rt; copy(desk, "a", "b"), Err(EndFault::Failed));
+        holds(rt, desk, b"byt");
         Ok(())
     }
 
     #[test]
     fn a_give_stops_at_the_place_that_fails(rt: HostRuntime) -> Result<(), Fail> {
         let mut desk = MemDesk::new(rt.alloc());
-        assert_eq!(rt; copy(&mut desk, "a", "b"), Err(EndFault::Failed));
-        let mut bytes = Bytes::new(rt.alloc());
-        bytes.append(b"bytes")?;
-        desk.put("a", bytes)?;
-        desk.fail("b", DeskCall::Give, 3)?;
-        assert_eq!(rt; copy(&mut desk, "a", "b"), Err(EndFault::Failed));
-        assert_eq!(rt; desk.bytes_of("b"), Some(b"byt".as_slice()));
-        Ok(())
+        stops(&rt, rt.alloc(), &mut desk)
     }
 }

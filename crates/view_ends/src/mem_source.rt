@@ -1,4 +1,7 @@
-ghost use Rattle.std.specs.Prelude.{◌≡◌, Some};
+ghost use Rattle.std.specs.Prelude.{◌≡◌, Some, IsErr, IfOk};
+ghost use Rattle.view_ends.specs.Memory.{mem_source};
+ghost use Rattle.view_ends.specs.Pieces.{Takes};
+ghost use Rattle.view_ends.specs.Plans.{planned_takes, FailsAt, StopsBefore};
 
 use crate::failing::{Failing, Places};
 use crate::fault::Failed;
@@ -18,9 +21,10 @@ impl MemSource {
     /// A source of these bytes. For each place in `fail_at`, one take made when just that many
     /// bytes were taken fails, the first of them, and no take gives bytes past the next place.
     pub fn new(bytes: Bytes, fail_at: Places) -> MemSource
-        ensures left { ⟦<MemSource as Source>⟧.left result ≡ Some bytes.items }
-        ensures taken { ⟦<MemSource as Source>⟧.taken result ≡ 0 }
-        ensures faults { ⟦<MemSource as Source>⟧.faults result ≡ 0 }
+        ensures left { (mem_source result).left ≡ Some bytes.items }
+        ensures taken { (mem_source result).taken ≡ 0 }
+        ensures faults { (mem_source result).faults ≡ 0 }
+        ensures planned { planned_takes result ≡ fail_at.items }
     {
         MemSource {
             still: StillSource::new(bytes),
@@ -31,27 +35,31 @@ impl MemSource {
 
     /// How many bytes were taken.
     pub fn taken(&self) -> u64
-        ensures { result ≡ ⟦<MemSource as Source>⟧.taken self.now }
+        ensures { result ≡ (mem_source self.now).taken }
     {
         self.still.taken()
     }
 
     /// How many takes failed.
     pub fn faults(&self) -> u64
-        ensures { result ≡ ⟦<MemSource as Source>⟧.faults self.now }
+        ensures { result ≡ (mem_source self.now).faults }
     {
         self.faults
     }
 }
 
 impl Source for MemSource {
-    ghost left = { λ s. ⟦<StillSource as Source>⟧.left s.still };
+    ghost left = { λ s. (mem_source s).left };
 
-    ghost taken = { λ s. ⟦<StillSource as Source>⟧.taken s.still };
+    ghost taken = { λ s. (mem_source s).taken };
 
-    ghost faults = { λ s. s.faults };
+    ghost faults = { λ s. (mem_source s).faults };
 
-    fn take(&mut self, buf: &mut [u8]) -> Result<usize, Failed> {
+    fn take(&mut self, buf: &mut [u8]) -> Result<usize, Failed>
+        ensures takes { Takes (mem_source self.old) (mem_source self.new) buf.old buf.new result }
+        ensures planned { FailsAt (IsErr result) (planned_takes self.old) (planned_takes self.new) (mem_source self.old).taken }
+        ensures stops { IfOk result (λ n. StopsBefore (planned_takes self.old) (mem_source self.old).taken n) }
+    {
         let at = self.still.taken();
         if self.failing.strike(at) {
             self.faults = self.faults.saturating_add(1);
@@ -60,6 +68,10 @@ impl Source for MemSource {
         let most = self.failing.room(at, buf.len());
         let n = self.still.take(&mut buf[..most])?;
         Ok(n)
+    }
+
+    fn expected(&self) -> u64 {
+        self.still.expected()
     }
 }
 

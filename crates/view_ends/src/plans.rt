@@ -1,7 +1,11 @@
-ghost use Rattle.std.specs.Prelude.{◌≡◌, ◌↔◌, ◌++◌, ◌∷◌, [], IsTrue, OnOk, OnErr, MatchBool, MatchOption, IsSomeAnd, slice_get, Any, IsPermutation};
+ghost use Rattle.std.specs.Prelude.{◌≡◌, ◌≢◌, ◌-◌, ◌++◌, ◌∷◌, [], ℕ, List, take, length, IsSome, OnOk, OnErr, MatchBool};
+ghost use Rattle.std.specs.BTreeMap.{get_by_text};
+ghost use Rattle.view_ends.specs.Ends.{AllStay, OthersStay};
 
 use crate::failing::Places;
 use std::alloc::Global;
+use std::collections::BTreeMap;
+use std::mem;
 use view_base::OutOfMemory;
 
 /// A call that a test can let fail.
@@ -19,84 +23,125 @@ pub enum DeskCall {
     Give,
 }
 
-/// One call that is to fail.
-#[derive(Drop)]
-struct Plan {
-    name: String,
-    call: DeskCall,
-    at: u64,
-}
-
-impl Plan {
-    ghost use Rattle.view_ends.specs.Plans.{IsFor};
-
-    fn is_for(&self, name: &str, call: DeskCall) -> bool
-        ensures { IsTrue result ↔ IsFor self.now name.now call }
-    {
-        self.call == call && self.name.as_str() == name
-    }
-}
-
-/// The calls that have yet to fail.
+/// The calls of one kind that have yet to fail: of each name their places.
 #[derive(Drop)]
 pub(crate) struct Plans {
     alloc: Global,
-    plans: Vec<Plan>,
+    places: BTreeMap<String, Places>,
 }
 
 impl Plans {
-    ghost use Rattle.view_ends.specs.Plans.{Plan, IsFor};
+    ghost use Rattle.view_ends.specs.Plans.{places_of};
 
-    pub(crate) fn new(alloc: Global) -> Plans {
+    /// No call is to fail.
+    pub(crate) fn new(alloc: Global) -> Plans
+        ensures { (name : List ℕ) → places_of result name ≡ [] }
+    {
         Plans {
             alloc,
-            plans: Vec::new(alloc),
+            places: BTreeMap::new(alloc),
         }
     }
 
     /// Plans that one more call of this name fails.
-    pub(crate) fn add(&mut self, name: &str, call: DeskCall, at: u64) -> Result<(), OutOfMemory>
-        ensures added { OnOk result ((plan : Plan) × IsFor plan name.now call × (plan.at ≡ at) × (self.new.plans.items ≡ self.old.plans.items ++ plan ∷ [])) }
-        ensures refused { OnErr result (self.new.plans.items ≡ self.old.plans.items) }
+    #[tactic(auto, using(std::proofs::lemmas::Map::Text::text_keys))]
+    pub(crate) fn add(&mut self, name: &str, at: u64) -> Result<(), OutOfMemory>
+        ensures added { OnOk result (places_of self.new name.now ≡ places_of self.old name.now ++ at ∷ []) }
+        ensures others { OthersStay (places_of self.old) (places_of self.new) name.now }
+        ensures refused { OnErr result (AllStay (places_of self.old) (places_of self.new)) }
     {
-        let name = String::from_str(self.alloc, name)?;
-        self.plans.push(Plan { name, call, at })?;
+        if self.places.contains_key(name) {
+            return self.add_entered(name, at);
+        }
+        let mut places = Places::new(self.alloc);
+        places.push(at)?;
+        let key = String::from_str(self.alloc, name)?;
+        self.places.insert(key, places)?;
         Ok(())
     }
 
-    /// The index of the first plan for this call of this name.
-    fn index_of(&self, name: &str, call: DeskCall) -> Option<usize>
-        ensures { MatchOption result (¬ Any (λ plan. IsFor plan name.now call) self.now.plans.items) (λ i. IsSomeAnd (slice_get self.now.plans.items i) (λ plan. IsFor plan name.now call)) }
+    /// Plans one more call of a name of which calls were planned before.
+    #[tactic(auto, using(std::proofs::lemmas::Map::Text::text_keys))]
+    fn add_entered(&mut self, name: &str, at: u64) -> Result<(), OutOfMemory>
+        requires { IsSome (get_by_text self.old.places name.now) }
+        ensures added { OnOk result (places_of self.new name.now ≡ places_of self.old name.now ++ at ∷ []) }
+        ensures others { OthersStay (places_of self.old) (places_of self.new) name.now }
+        ensures refused { OnErr result (AllStay (places_of self.old) (places_of self.new)) }
     {
-        self.plans.iter().position(|plan| plan.is_for(name, call))
+        match self.places.get_mut(name) {
+            Some(places) => places.push(at),
+            None => Ok(()),
+        }
     }
 
-    /// Whether this call fails. Each plan fails one call.
-    pub(crate) fn strike(&mut self, name: &str, call: DeskCall) -> bool
-        ensures { MatchBool result ((plan : Plan) × IsFor plan name.now call × IsPermutation self.old.plans.items (plan ∷ self.new.plans.items)) ((self.new.plans.items ≡ self.old.plans.items) × ¬ Any (λ plan. IsFor plan name.now call) self.old.plans.items) }
+    /// Whether a call of this name fails, which uses the last plan for it up.
+    #[tactic(auto, using(std::proofs::lemmas::Map::Text::text_keys))]
+    pub(crate) fn strike(&mut self, name: &str) -> bool
+        ensures planned { MatchBool result (places_of self.old name.now ≢ []) (places_of self.old name.now ≡ []) }
+        ensures used { places_of self.new name.now ≡ take (length (places_of self.old name.now) - 1) (places_of self.old name.now) }
+        ensures others { OthersStay (places_of self.old) (places_of self.new) name.now }
     {
-        match self.index_of(name, call) {
-            Some(i) => {
-                let _ = self.plans.remove(i);
+        match self.places.get_mut(name) {
+            Some(places) if 0 < places.len() => {
+                let left = places.len() - 1;
+                places.cut(left);
                 true
             }
-            None => false,
+            _ => false,
         }
     }
 
-    /// The places at which takes or gives of this name are to fail.
-    pub(crate) fn places(&self, name: &str, call: DeskCall) -> Result<Places, OutOfMemory> {
-        let mut places = Places::new(self.alloc);
-        for plan in &self.plans {
-            if plan.is_for(name, call) {
-                places.push(plan.at)?;
-            }
+    /// The places that were planned of this name, of which none is planned any more.
+    #[tactic(auto, using(std::proofs::lemmas::Map::Text::text_keys))]
+    pub(crate) fn hand_on(&mut self, name: &str) -> Places
+        ensures handed { result.items ≡ places_of self.old name.now }
+        ensures gone { places_of self.new name.now ≡ [] }
+        ensures others { OthersStay (places_of self.old) (places_of self.new) name.now }
+    {
+        let none = Places::new(self.alloc);
+        match self.places.get_mut(name) {
+            Some(places) => mem::replace(places, none),
+            None => none,
         }
-        Ok(places)
+    }
+}
+
+/// The calls of a desk that have yet to fail.
+#[derive(Drop)]
+pub(crate) struct DeskPlans {
+    pub(crate) open_in: Plans,
+    pub(crate) open_out: Plans,
+    pub(crate) keep: Plans,
+    pub(crate) take: Plans,
+    pub(crate) give: Plans,
+}
+
+impl DeskPlans {
+    ghost use Rattle.view_ends.specs.Plans.{NonePlanned, Plan, planned};
+
+    /// No call is to fail.
+    pub(crate) fn new(alloc: Global) -> DeskPlans
+        ensures { NonePlanned (planned result) }
+    {
+        DeskPlans {
+            open_in: Plans::new(alloc),
+            open_out: Plans::new(alloc),
+            keep: Plans::new(alloc),
+            take: Plans::new(alloc),
+            give: Plans::new(alloc),
+        }
     }
 
-    /// Drops what was planned of this call of this name.
-    pub(crate) fn forget(&mut self, name: &str, call: DeskCall) {
-        self.plans.retain(|plan| !plan.is_for(name, call));
+    /// Plans that one more call of this kind and name fails.
+    pub(crate) fn add(&mut self, name: &str, call: DeskCall, at: u64) -> Result<(), OutOfMemory>
+        ensures { Plan (planned self.old) (planned self.new) name.now call at result }
+    {
+        match call {
+            DeskCall::OpenIn => self.open_in.add(name, at),
+            DeskCall::OpenOut => self.open_out.add(name, at),
+            DeskCall::Keep => self.keep.add(name, at),
+            DeskCall::Take => self.take.add(name, at),
+            DeskCall::Give => self.give.add(name, at),
+        }
     }
 }

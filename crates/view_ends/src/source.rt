@@ -28,4 +28,9 @@ pub trait Source {
         ensures kept { OnErr result (left self.new ≡ left self.old) }
         ensures uncounted { OnErr result (taken self.new ≡ taken self.old) }
         ensures later { faults self.old ≤ faults self.new };
+
+    /// About how many bytes are still to come, where the source knows; nothing rests on it.
+    fn expected(&self) -> u64 {
+        0
+    }
 }

@@ -1,4 +1,4 @@
-ghost use Rattle.std.specs.Prelude.{◌≡◌, Some, []};
+ghost use Rattle.std.specs.Prelude.{◌≡◌, Some, [], IsErrOf};
 
 use crate::fault::EndFault;
 use crate::sink::Sink;
@@ -37,11 +37,17 @@ impl StillSink {
 }
 
 impl Sink for StillSink {
-    ghost got = { λ s. Some s.bytes.items };
+    ghost use Rattle.view_ends.specs.Memory.{still_sink};
+    ghost use Rattle.view_ends.specs.Pieces.{Gives};
 
-    ghost faults = { λ _. 0 };
+    ghost got = { λ s. (still_sink s).got };
 
-    fn give(&mut self, piece: &[u8]) -> Result<usize, EndFault> {
+    ghost faults = { λ s. (still_sink s).faults };
+
+    fn give(&mut self, piece: &[u8]) -> Result<usize, EndFault>
+        ensures gives { Gives (still_sink self.old) (still_sink self.new) piece.now result }
+        ensures never { ¬ IsErrOf result EndFault.Failed }
+    {
         self.bytes.append(piece)?;
         Ok(piece.len())
     }

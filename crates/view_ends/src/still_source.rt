@@ -1,4 +1,4 @@
-ghost use Rattle.std.specs.Prelude.{◌≡◌, ◌+◌, ◌^◌, ◌<◌, ◌≤◌, Some, drop, length};
+ghost use Rattle.std.specs.Prelude.{◌≡◌, ◌+◌, ◌^◌, ◌<◌, ◌≤◌, Some, drop, length, IsOk};
 
 use crate::fault::Failed;
 use crate::source::Source;
@@ -38,17 +38,27 @@ impl StillSource {
 }
 
 impl Source for StillSource {
-    ghost left = { λ s. Some (drop s.at s.bytes.items) };
+    ghost use Rattle.view_ends.specs.Memory.{still_source};
+    ghost use Rattle.view_ends.specs.Pieces.{Takes};
 
-    ghost taken = { λ s. s.at };
+    ghost left = { λ s. (still_source s).left };
 
-    ghost faults = { λ _. 0 };
+    ghost taken = { λ s. (still_source s).taken };
 
-    fn take(&mut self, buf: &mut [u8]) -> Result<usize, Failed> {
+    ghost faults = { λ s. (still_source s).faults };
+
+    fn take(&mut self, buf: &mut [u8]) -> Result<usize, Failed>
+        ensures takes { Takes (still_source self.old) (still_source self.new) buf.old buf.new result }
+        ensures never { IsOk result }
+    {
         let rest = self.rest();
         let n = buf.len().min(rest.len());
         buf[..n].copy_from_slice(&rest[..n]);
         self.at += n;
         Ok(n)
+    }
+
+    fn expected(&self) -> u64 {
+        self.rest().len() as u64
     }
 }

@@ -33,22 +33,18 @@ abbrev pub saved : List (List ℕ) → Result command.Command refusal.Refusal
 saved [] = Ok Save
 saved (word ∷ others) = Err Line
 
--- the command of a line that begins with this word and goes on with these, for a point format
-abbrev pub command_by : List ℕ → List (List ℕ) → List ℕ → ℕ → Result command.Command refusal.Refusal
-command_by word others line format =
+-- the command of a line by its words, for a point format, or why it is refused
+unfoldable pub command_of_words : List (List ℕ) → ℕ → Result command.Command refusal.Refusal
+command_of_words [] format = Err Line
+command_of_words (word ∷ others) format =
     if bytes_eq word (codes "view") then viewed (view_of others)
-    else if bytes_eq word (codes "edit") then edited (edit_of line format)
+    else if bytes_eq word (codes "edit") then edited (edit_of (word ∷ others) format)
     else if bytes_eq word (codes "save") then saved others
     else Err Line
 
--- the command of these words of a line, for a point format
-abbrev pub command_of_words : List (List ℕ) → List ℕ → ℕ → Result command.Command refusal.Refusal
-command_of_words [] line format = Err Line
-command_of_words (word ∷ others) line format = command_by word others line format
-
 -- the command of a line for a point format, or why it is refused
 unfoldable pub command_of : List ℕ → ℕ → Result command.Command refusal.Refusal
-command_of line format = command_of_words (words line) line format
+command_of line format = command_of_words (words line) format
 
 -- an edit of a command has a class that a point format has room for
 abbrev pub FitsFormat : ℕ → command.Command → Type 0

@@ -25,7 +25,7 @@ fn view_command(text: &[u8]) -> Result<Command, Refusal>
 /// The command of an edit line, for a point data record format.
 fn edit_command(line: &[u8], format: u8) -> Result<Command, Refusal>
     requires { format ≤ 10 }
-    ensures command { result ≡ edited (edit_of line.now format) }
+    ensures command { result ≡ edited (edit_of (words line.now) format) }
     ensures room { IfOk result (FitsFormat format) }
 {
     match read_edit(line, format) {

@@ -1,10 +1,11 @@
 -- Pictures worked by hand: the definitions give the bytes that arithmetic gives.
-use Rattle.std.proofs.Common.{◌≡◌, ℕ, List, [], ◌∷◌, ◌++◌, refl, replicate, ℤ, pos, negsuc}
+use Rattle.std.proofs.Common.{◌≡◌, ℕ, List, [], ◌∷◌, ◌++◌, ◌-◌, refl, replicate, take, Some, None, ℤ, pos, negsuc}
 use Rattle.std.specs.Prelude.{codes}
 use Rattle.std.specs.Int.{cast_unsigned, w32, to_le_bytes, w64}
 use Rattle.std.specs.List.{flat_map}
 use Rattle.view_base.specs.declared.place.Point.{Point}
-use Rattle.view_meaning.specs.Survey.{u8_at, u16_at, u32_at, u64_at, i32_at, record_count, record_at, point_of, class_byte, withheld_of}
+use Rattle.view_meaning.specs.Survey.{u8_at, u16_at, u32_at, u64_at, i32_at, evlrs_at, evlr_count, record_count, record_at, points_end, point_of, class_byte, withheld_of}
+use Rattle.view_meaning.specs.Layout.{few_bytes, no_signature, other_version, small_header, missing_points, block_size, header_faults, vlr_at, vlr_fits, vlr_fault, evlr_at, evlr_fits, evlr_fault, fault}
 use Rattle.view_meaning.specs.Classes.{has, class_at, classes, passes}
 use Rattle.view_meaning.specs.Camera.{Lens, spot, orthographic, perspective}
 use Rattle.view_meaning.specs.Picture.{by_class, is_candidate, candidates, depth_of, nearest, colour, pixel}
@@ -126,3 +127,43 @@ the_largest_products_do_not_wrap_1 = refl
 points_beside_the_picture_do_not_show : shows (plain 5 ((at (negsuc 99999) (negsuc 99999) (pos 5), 2) ∷ (at (negsuc 9) (negsuc 9) (pos 5), 2) ∷ (at (pos 0) (pos 0) (pos 5), 6) ∷ (at (pos 10) (pos 10) (pos 5), 2) ∷ (at (pos 100000) (pos 100000) (pos 5), 2) ∷ [])) one_pixel 0 0 ≡ class_6
 unfolding u8_at u16_at u32_at u64_at i32_at record_count record_at point_of class_byte withheld_of has class_at classes passes spot is_candidate candidates depth_of nearest colour pixel
 points_beside_the_picture_do_not_show = refl
+
+-- a survey of LAS 1.2 or 1.3 with these records, and a header of so many bytes
+abbrev old : ℕ → ℕ → ℕ → List (Point × ℕ) → List ℕ
+old minor size count records =
+    codes "LASF" ++ zeros 20 ++ 1 ∷ minor ∷ zeros 68 ++ size ∷ 0 ∷ size ∷ 0 ∷ zeros 6 ++ 0 ∷ 20 ∷ 0 ∷ count ∷ zeros (size - 108) ++ flat_map record_bytes records
+
+abbrev two_records : List (Point × ℕ)
+two_records = (at (pos 0) (pos 0) (pos 5), 2) ∷ (at (pos 1) (pos 0) (pos 9), 6) ∷ []
+
+-- the bytes at 247 are X of the second record, and no count
+bytes_at_247_of_1_2_are_no_count : (u64_at (old 2 227 2 two_records) 247 ≡ 1) × (record_count (old 2 227 2 two_records) ≡ 2)
+unfolding u8_at u32_at u64_at record_count
+bytes_at_247_of_1_2_are_no_count = (refl, refl)
+
+a_survey_of_1_2_shows : shows (old 2 227 2 two_records) one_pixel 0 0 ≡ class_2
+unfolding u8_at u16_at u32_at u64_at i32_at record_count record_at point_of class_byte withheld_of has class_at classes passes spot is_candidate candidates depth_of nearest colour pixel
+a_survey_of_1_2_shows = refl
+
+a_survey_of_1_3_shows : shows (old 3 235 1 ((at (pos 0) (pos 0) (pos 5), 2) ∷ [])) one_pixel 0 0 ≡ class_2
+unfolding u8_at u16_at u32_at u64_at i32_at record_count record_at point_of class_byte withheld_of has class_at classes passes spot is_candidate candidates depth_of nearest colour pixel
+a_survey_of_1_3_shows = refl
+
+-- the first fault of each of these files, and of those that are cut or damaged in one place
+pub record OldFaults : Type 0 where
+  pub of_1_2 : fault (old 2 227 2 two_records) ≡ None
+  pub of_1_3 : fault (old 3 235 1 ((at (pos 0) (pos 0) (pos 5), 2) ∷ [])) ≡ None
+  pub empty : fault (old 2 227 0 []) ≡ None
+  pub cut_1_2 : fault (take 226 (old 2 227 0 [])) ≡ Some (few_bytes 226)
+  pub cut_1_3 : fault (take 234 (old 3 235 0 [])) ≡ Some (few_bytes 234)
+  pub cut_1_4 : fault (take 374 (plain 0 [])) ≡ Some (few_bytes 374)
+  pub signed : fault (zeros 374) ≡ Some no_signature
+  pub unsigned : fault (zeros 226) ≡ Some (few_bytes 226)
+  pub small : fault (old 2 226 0 (two_records)) ≡ Some (small_header 226)
+  pub early : fault (old 1 227 2 two_records) ≡ Some (other_version 1 1)
+  pub late : fault (old 5 227 2 two_records) ≡ Some (other_version 1 5)
+  pub points : fault (old 3 235 3 two_records) ≡ Some (missing_points 295 275)
+
+old_faults : OldFaults
+unfolding u8_at u16_at u32_at u64_at evlrs_at evlr_count record_count points_end block_size header_faults vlr_at vlr_fits vlr_fault evlr_at evlr_fits evlr_fault fault
+old_faults = record { of_1_2 = refl; of_1_3 = refl; empty = refl; cut_1_2 = refl; cut_1_3 = refl; cut_1_4 = refl; signed = refl; unsigned = refl; small = refl; early = refl; late = refl; points = refl }

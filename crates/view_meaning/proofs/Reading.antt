@@ -43,6 +43,9 @@ pub i32_at-from_part : (at n : ℕ) (b : List ℕ) → 4 ≤ n → cast_signed w
 unfolding i32_at
 i32_at-from_part at n b fits = ap (cast_signed w32) (from_part at n 4 b fits)
 
+-- how a number that is read from the front of a part is the number at its place
+pub ruleset numbers = (u16_at-from_part, u32_at-from_part, u64_at-from_part)
+
 pub u8_at_part : (at n i : ℕ) (b : List ℕ) → i < n → u8_at (take n (drop at b)) i ≡ u8_at b (at + i)
 unfolding u8_at
 u8_at_part at n i b fits = get_or-take n (drop at b) i 0 fits ∙ get_or-drop at b i 0

@@ -1,9 +1,9 @@
--- Classes, the edits that change them, and the filters that read them.
-use Rattle.std.specs.Prelude.{ℕ, ◌+◌, ◌-◌, ◌*◌, ◌/◌, ◌%◌, ◌^◌, ◌==◌, ◌&&◌, not, nat_le, if◌then◌else◌, Bool, List, [], ◌∷◌, map, fold, slice_index}
+-- Classes, the edits that change them, the filters that read them, and the files that keep them.
+use Rattle.std.specs.Prelude.{ℕ, ◌+◌, ◌-◌, ◌*◌, ◌/◌, ◌%◌, ◌^◌, ◌==◌, ◌&&◌, not, nat_le, nat_lt, if◌then◌else◌, Bool, List, [], ◌∷◌, length, map, fold, count_by, slice_index}
 use Rattle.std.specs.List.{range_with_len}
 use Rattle.view_base.specs.declared.place.Point.{Point}
 use Rattle.view_base.specs.declared.place.Box3.{Box3}
-use Rattle.view_meaning.specs.Survey.{record_count, format_of, point_of, class_byte, withheld_of}
+use Rattle.view_meaning.specs.Survey.{u8_at, points_at, points_end, record_length, record_count, format_of, point_of, class_place, class_byte, withheld_of}
 use lib.Signed.{le_z}
 
 -- the greatest class that a format has room for
@@ -60,3 +60,20 @@ classes b edits = map (class_at b edits) (range_with_len 0 (record_count b))
 -- whether record i passes a filter under these classes
 unfoldable pub passes : List ℕ → List ℕ → Filter → ℕ → Bool
 passes b cs filter i = has filter.classes (slice_index cs i) && not (filter.hide_withheld && withheld_of b i)
+
+-- at how many places two lists of classes differ
+unfoldable pub changed : List ℕ → List ℕ → ℕ
+changed old new = count_by (λ i. not (slice_index old i == slice_index new i)) (range_with_len 0 (length old))
+
+-- whether the byte at a place of a file is the class byte of a record
+unfoldable pub is_class_byte : List ℕ → ℕ → Bool
+is_class_byte b at = nat_le (points_at b) at && nat_lt at (points_end b) && (at - points_at b) % record_length b == class_place (format_of b)
+
+-- the byte at a place of a saved file: of a class byte the class bits are those of its record's class, and every
+-- other bit is as read
+unfoldable pub saved_byte : List ℕ → List ℕ → ℕ → ℕ
+saved_byte b cs at = if is_class_byte b at then with_class (format_of b) (u8_at b at) (slice_index cs ((at - points_at b) / record_length b)) else u8_at b at
+
+-- the file with these classes, which is as long as the one that was read
+unfoldable pub saved : List ℕ → List ℕ → List ℕ
+saved b cs = map (saved_byte b cs) (range_with_len 0 (length b))

@@ -1,10 +1,9 @@
--- How a LAS file is laid out, and what is the first fault of one that is not (LAS 1.4 R15, public header
--- block, variable length records and extended variable length records). The order of the faults is this
--- project's own. All numbers are whole numbers without bound.
-use Rattle.std.specs.Prelude.{◌≡◌, ℕ, zero, suc, ◌+◌, ◌*◌, ◌==◌, ◌&&◌, nat_le, nat_lt, nat_eq, not, min, if◌then◌else◌, Bool, List, [], ◌∷◌, ◌++◌, length, slice_index, codes, Option, Some, None}
-use Rattle.std.specs.List.{starts_with, position, range_with_len}
-use Rattle.std.specs.Option.{option_map}
-use Rattle.view_meaning.specs.Survey.{u8_at, u16_at, u64_at, header_size, points_at, vlr_count, format_of, record_length, evlrs_at, evlr_count, points_end}
+-- How a LAS file is laid out, and what is the first fault of one that is not (LAS 1.2, 1.3 and 1.4 R15,
+-- public header block, variable length records and extended variable length records). The order of the
+-- faults is this project's own. All numbers are whole numbers without bound.
+use Rattle.std.specs.Prelude.{◌≡◌, ℕ, zero, suc, ◌+◌, ◌==◌, ◌&&◌, nat_le, nat_lt, nat_eq, min, map, if◌then◌else◌, Bool, List, [], ◌∷◌, ◌++◌, length, slice_index, codes, Option, Some, None}
+use Rattle.std.specs.List.{starts_with, range_with_len}
+use Rattle.view_meaning.specs.Survey.{u8_at, u16_at, u64_at, minor_of, header_size, points_at, vlr_count, format_of, record_length, evlrs_at, evlr_count, points_end}
 
 -- what is wrong with a file, and the numbers that show it
 pub data Fault : Type 0 where
@@ -41,13 +40,18 @@ first_fault (Some fault ∷ others) = Some fault
 abbrev pub least_length : ℕ → ℕ
 least_length format = slice_index (20 ∷ 28 ∷ 26 ∷ 34 ∷ 57 ∷ 63 ∷ 30 ∷ 36 ∷ 38 ∷ 59 ∷ 67 ∷ []) format
 
+-- the bytes of the public header block of a version
+unfoldable pub block_size : ℕ → ℕ
+block_size minor = if minor == 2 then 227 else if minor == 3 then 235 else 375
+
 -- the conditions on the header, in order
 unfoldable pub header_faults : List ℕ → List (Option Fault)
 header_faults b =
-    unless (nat_le 375 (length b)) (few_bytes (length b))
+    unless (nat_le 227 (length b)) (few_bytes (length b))
     ∷ unless (starts_with nat_eq b (codes "LASF")) no_signature
-    ∷ unless (u8_at b 24 == 1 && u8_at b 25 == 4) (other_version (u8_at b 24) (u8_at b 25))
-    ∷ unless (nat_le 375 (header_size b)) (small_header (header_size b))
+    ∷ unless (u8_at b 24 == 1 && nat_le 2 (minor_of b) && nat_le (minor_of b) 4) (other_version (u8_at b 24) (minor_of b))
+    ∷ unless (nat_le (block_size (minor_of b)) (length b)) (few_bytes (length b))
+    ∷ unless (nat_le (block_size (minor_of b)) (header_size b)) (small_header (header_size b))
     ∷ unless (nat_lt (format_of b) 128) (compressed (format_of b))
     ∷ unless (nat_le (format_of b) 10) (unknown_format (format_of b))
     ∷ unless (nat_le (least_length (format_of b)) (record_length b)) (short_record (record_length b) (least_length (format_of b)))
@@ -65,26 +69,21 @@ unfoldable pub evlr_at : List ℕ → ℕ → ℕ → ℕ
 evlr_at b first zero = first
 evlr_at b first (suc k) = evlr_at b first k + 60 + u64_at b (evlr_at b first k + 20)
 
--- whether variable length record k fits before an end and within the file, its header first
+-- whether variable length record k ends at an end or before, and within the file
 unfoldable pub vlr_fits : List ℕ → ℕ → ℕ → ℕ → Bool
-vlr_fits b first end k = nat_le (vlr_at b first k + 54) (min end (length b)) && nat_le (vlr_at b first (suc k)) (min end (length b))
+vlr_fits b first end k = nat_le (vlr_at b first (suc k)) (min end (length b))
 
--- whether extended variable length record k fits after the points and within the file, its header first
-unfoldable pub evlr_fits : List ℕ → ℕ → ℕ → ℕ → Bool
-evlr_fits b first points_end k =
-    nat_le points_end (evlr_at b first k) && nat_le (evlr_at b first k + 60) (length b) && nat_le (evlr_at b first (suc k)) (length b)
-
--- the first of so many numbers that fails a test, if one does
-abbrev pub first_failing : (ℕ → Bool) → ℕ → Option ℕ
-first_failing passes count = position (λ k. not (passes k)) (range_with_len 0 count)
-
--- the first variable length record that does not fit, if one does not
+-- the first of so many variable length records that does not fit
 unfoldable pub vlr_fault : List ℕ → ℕ → ℕ → ℕ → Option Fault
-vlr_fault b first end count = option_map (λ k. unfit_vlr k (vlr_at b first k)) (first_failing (vlr_fits b first end) count)
+vlr_fault b first end count = first_fault (map (λ k. unless (vlr_fits b first end k) (unfit_vlr k (vlr_at b first k))) (range_with_len 0 count))
 
--- the first extended variable length record that does not fit, if one does not
+-- whether extended variable length record k begins where the points end or after, and ends within the file
+unfoldable pub evlr_fits : List ℕ → ℕ → ℕ → ℕ → Bool
+evlr_fits b first points_end k = nat_le points_end (evlr_at b first k) && nat_le (evlr_at b first (suc k)) (length b)
+
+-- the first of so many extended variable length records that does not fit
 unfoldable pub evlr_fault : List ℕ → ℕ → ℕ → ℕ → Option Fault
-evlr_fault b first points_end count = option_map (λ k. unfit_evlr k (evlr_at b first k)) (first_failing (evlr_fits b first points_end) count)
+evlr_fault b first points_end count = first_fault (map (λ k. unless (evlr_fits b first points_end k) (unfit_evlr k (evlr_at b first k))) (range_with_len 0 count))
 
 -- the first fault of a file in the order of the conditions: the header, the variable length records, the
 -- points, the extended variable length records. None where it is laid out

@@ -1,7 +1,6 @@
 pub mod Survey
 pub mod Layout
 pub mod Classes
-pub mod Saved
 pub mod Camera
 pub mod Picture
 pub mod Frame

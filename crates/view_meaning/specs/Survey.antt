@@ -1,5 +1,5 @@
--- A LAS file as numbers at offsets (LAS 1.4 R15, public header block and point data records).
-use Rattle.std.specs.Prelude.{ℕ, ◌+◌, ◌*◌, ◌/◌, ◌%◌, ◌==◌, nat_le, if◌then◌else◌, Bool, ℤ, List, slice_index, Option, Some, None}
+-- A LAS file as numbers at offsets (LAS 1.2, 1.3 and 1.4 R15, public header block and point data records).
+use Rattle.std.specs.Prelude.{ℕ, ◌+◌, ◌*◌, ◌/◌, ◌%◌, ◌==◌, ◌||◌, nat_le, if◌then◌else◌, Bool, ℤ, List, slice_index, Option, Some, None}
 use Rattle.std.specs.Int.{cast_signed, w32}
 use Rattle.byteorder.specs.Endian.{little_from}
 use Rattle.view_base.specs.declared.place.Point.{Point}
@@ -25,6 +25,10 @@ u64_at b at = little_from at 8 b
 unfoldable pub i32_at : List ℕ → ℕ → ℤ
 i32_at b at = cast_signed w32 (little_from at 4 b)
 
+-- the version's minor number
+abbrev pub minor_of : List ℕ → ℕ
+minor_of b = u8_at b 25
+
 -- the header size
 abbrev pub header_size : List ℕ → ℕ
 header_size b = u16_at b 94
@@ -45,17 +49,21 @@ format_of b = u8_at b 104
 abbrev pub record_length : List ℕ → ℕ
 record_length b = u16_at b 105
 
+-- a number that LAS 1.4 alone has, and 0 in LAS 1.2 and 1.3
+abbrev pub of_1_4 : List ℕ → ℕ → ℕ
+of_1_4 b number = if minor_of b == 4 then number else 0
+
 -- the start of the first extended variable length record
-abbrev pub evlrs_at : List ℕ → ℕ
-evlrs_at b = u64_at b 235
+unfoldable pub evlrs_at : List ℕ → ℕ
+evlrs_at b = of_1_4 b (u64_at b 235)
 
 -- the number of extended variable length records
-abbrev pub evlr_count : List ℕ → ℕ
-evlr_count b = u32_at b 243
+unfoldable pub evlr_count : List ℕ → ℕ
+evlr_count b = of_1_4 b (u32_at b 243)
 
--- the number of point records: the 64 bits at 247 where they are not 0, else the legacy 32 bits at 107
+-- the number of point records: the 64 bits at 247 of LAS 1.4 where they are not 0, else the 32 bits at 107
 unfoldable pub record_count : List ℕ → ℕ
-record_count b = if u64_at b 247 == 0 then u32_at b 107 else u64_at b 247
+record_count b = if of_1_4 b (u64_at b 247) == 0 then u32_at b 107 else u64_at b 247
 
 -- where point data record i begins
 unfoldable pub record_at : List ℕ → ℕ → ℕ
@@ -77,11 +85,8 @@ intensity_of b i = u16_at b (record_at b i + 12)
 abbrev pub rgb_place : ℕ → Option ℕ
 rgb_place format =
     if format == 2 then Some 20
-    else if format == 3 then Some 28
-    else if format == 5 then Some 28
-    else if format == 7 then Some 30
-    else if format == 8 then Some 30
-    else if format == 10 then Some 30
+    else if format == 3 || format == 5 then Some 28
+    else if format == 7 || format == 8 || format == 10 then Some 30
     else None
 
 -- red, green and blue from a place

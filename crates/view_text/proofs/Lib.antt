@@ -1,3 +1,3 @@
-pub mod LineWords
+pub mod ViewForms
 pub mod Numbers
 pub mod Views

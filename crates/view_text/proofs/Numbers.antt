@@ -5,7 +5,8 @@ use Rattle.std.proofs.lemmas.List.{ext_get_or, get_or-set_same, get_or-set_other
 use Rattle.std.proofs.lemmas.List.FromFn.{get_or-map-range_with_len, length-map-range_with_len}
 use Rattle.std.specs.Prelude.{unwrap_or}
 use Rattle.view_base.specs.Text.{number}
-use Rattle.view_text.specs.ViewWords.{word_at, camera_numbers}
+use Rattle.view_base.specs.Fitting.{word_at}
+use Rattle.view_text.specs.ViewWords.{camera_numbers}
 
 -- the number that the word at a place is
 abbrev pub number_at : List (List ℕ) → ℕ → ℤ

@@ -1,2 +1,1 @@
 pub mod ViewWords
-pub mod Reading

@@ -3,12 +3,11 @@
 
 mod fault;
 mod fitting;
+mod kinds;
 mod reading;
-mod separate;
 mod view_spec;
 
 pub use fault::TextFault;
-pub use fitting::{fits_view, is_built_view};
-pub use reading::read_view;
-pub use separate::read_view_words;
+pub use fitting::fits_view;
+pub use reading::{read_view, read_view_from};
 pub use view_spec::ViewSpec;

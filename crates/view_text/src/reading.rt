@@ -1,93 +1,23 @@
-ghost use Rattle.std.specs.Prelude.{◌≡◌, ◌+◌, ◌<◌, ◌≤◌, length, drop, Some, None, OnOk, IfOk, IfErr, IsTrue};
+ghost use Rattle.std.specs.Prelude.{◌≡◌, ◌+◌, Some, None, OnOk, IfOk, IfErr};
 ghost use Rattle.view_base.specs.Text.{words};
+ghost use Rattle.view_base.specs.Fitting.{misfit};
+ghost use Rattle.view_base.specs.Cursor.{all_words};
 ghost use Rattle.view_meaning.specs.Picture.{by_class};
-ghost use Rattle.view_text.specs.ViewWords.{fits, words_fault, word_at, is_built, camera_numbers, view_of};
-ghost use Rattle.view_text.specs.Reading.{IsRead};
+ghost use Rattle.view_text.specs.ViewWords.{fits, is_whole, is_built, camera_numbers, view_of};
 
 use crate::fault::TextFault;
-use crate::fitting::{fits_view, is_built_view};
+use crate::kinds::{ColouringWord, ProjectionWord, WithheldWord};
 use crate::view_spec::{ViewSpec, view_by};
-use view_base::{next_word, read_number};
+use class_bits::ClassWord;
+use view_base::{Cursor, Form, NumberWord, WordsOf};
 
-/// The words of a view, read one after another: each one taken fits its place.
-#[derive(Drop)]
-struct ViewWords<'a> {
-    line: &'a [u8],
-    at: usize,
-    place: u32,
-    ghost in_line: { at ≤ length line.now },
-    ghost read: { IsRead (words line.now) (words (drop at line.now)) place },
-}
+/// The words of a view.
+struct ViewForm;
 
-impl<'a> ViewWords<'a> {
-    /// Before the first word of a line.
-    fn new(line: &'a [u8]) -> Self
-        ensures line { result.line.now ≡ line.now }
-        ensures place { result.place ≡ 0 }
-    {
-        ViewWords {
-            line,
-            at: 0,
-            place: 0,
-        }
-    }
+impl Form for ViewForm {
+    ghost fits = { fits };
 
-    /// The fault that the next word doesn't fit.
-    fn fault(&self) -> TextFault
-        ensures { result ≡ TextFault.Line self.now.place }
-    {
-        TextFault::Line { at: self.place }
-    }
-
-    /// Takes the next word where it fits.
-    fn next(&mut self) -> Result<&'a [u8], TextFault>
-        requires { self.old.place < 22 }
-        ensures line { self.new.line.now ≡ self.old.line.now }
-        ensures place { OnOk result (self.new.place ≡ self.old.place + 1) }
-        ensures word { IfOk result
-            (λ word. word.now ≡ word_at (words self.old.line.now) self.old.place) }
-        ensures fits { IfOk result (λ word. IsTrue (fits self.old.place word.now)) }
-        ensures fault { IfErr result (λ e. words_fault (words self.old.line.now) ≡ Some e) }
-    {
-        let Some((start, end)) = next_word(self.line, self.at) else {
-            return Err(self.fault());
-        };
-        let word = &self.line[start..end];
-        if !fits_view(self.place as usize, word) {
-            return Err(self.fault());
-        }
-        self.at = end;
-        self.place += 1;
-        Ok(word)
-    }
-
-    /// Takes the next eighteen words, which are the camera's numbers.
-    fn numbers(&mut self) -> Result<[i128; 18], TextFault>
-        requires { self.old.place ≡ 1 }
-        ensures line { self.new.line.now ≡ self.old.line.now }
-        ensures place { OnOk result (self.new.place ≡ 19) }
-        ensures numbers { IfOk result (λ n. n ≡ camera_numbers (words self.old.line.now)) }
-        ensures fault { IfErr result (λ e. words_fault (words self.old.line.now) ≡ Some e) }
-    {
-        let mut numbers = [0; 18];
-        for i in 0..18 {
-            let word = self.next()?;
-            numbers[i] = read_number(word).unwrap();
-        }
-        Ok(numbers)
-    }
-
-    /// The end of the words of a view, or the fault of a further word.
-    fn end(&self) -> Result<(), TextFault>
-        requires { self.now.place ≡ 22 }
-        ensures whole { OnOk result (words_fault (words self.now.line.now) ≡ None) }
-        ensures fault { IfErr result (λ e. words_fault (words self.now.line.now) ≡ Some e) }
-    {
-        match next_word(self.line, self.at) {
-            Some(_) => Err(self.fault()),
-            None => Ok(()),
-        }
-    }
+    ghost whole = { is_whole };
 }
 
 /// What the words of a view say.
@@ -97,48 +27,75 @@ struct Said {
     numbers: [i128; 18],
 }
 
-/// What the words of a line say, which all fit.
-fn read_words(line: &[u8]) -> Result<Said, TextFault>
-    ensures whole { OnOk result (words_fault (words line.now) ≡ None) }
-    ensures built { IfOk result (λ s. s.built ≡ is_built (words line.now)) }
-    ensures numbers { IfOk result (λ s. s.numbers ≡ camera_numbers (words line.now)) }
-    ensures fault { IfErr result (λ e. words_fault (words line.now) ≡ Some e) }
+/// The camera's eighteen numbers, which are the next words.
+fn read_numbers(rest: &mut Cursor<ViewForm>) -> Result<[i128; 18], u32>
+    requires { rest.old.place ≡ 1 }
+    ensures source { rest.new.source ≡ rest.old.source }
+    ensures place { OnOk result (rest.new.place ≡ 19) }
+    ensures numbers { IfOk result (λ n. n ≡ camera_numbers (all_words rest.old.source)) }
+    ensures misfit { IfErr result
+        (λ at. misfit fits is_whole (all_words rest.old.source) ≡ Some at) }
 {
-    let mut words = ViewWords::new(line);
-    let kind = words.next()?;
-    let numbers = words.numbers()?;
-    let colouring = words.next()?;
-    let classes = words.next()?;
-    let withheld = words.next()?;
-    words.end()?;
+    let mut numbers = [0; 18];
+    for i in 0..18 {
+        numbers[i] = rest.read::<NumberWord>()?;
+    }
+    Ok(numbers)
+}
+
+/// What the words of a view say, or the first place where they don't fit.
+fn read_said(source: WordsOf) -> Result<Said, u32>
+    ensures fit { OnOk result (misfit fits is_whole (all_words source.entry) ≡ None) }
+    ensures built { IfOk result (λ s. s.built ≡ is_built (all_words source.entry)) }
+    ensures numbers { IfOk result (λ s. s.numbers ≡ camera_numbers (all_words source.entry)) }
+    ensures misfit { IfErr result
+        (λ at. misfit fits is_whole (all_words source.entry) ≡ Some at) }
+{
+    let mut rest = Cursor::<ViewForm>::new(source);
+    let ortho = rest.is_next(b"ortho");
+    rest.read::<ProjectionWord>()?;
+    let numbers = read_numbers(&mut rest)?;
+    let class = rest.is_next(b"class");
+    rest.read::<ColouringWord>()?;
+    let all = rest.is_next(b"all");
+    rest.read::<ClassWord>()?;
+    let show = rest.is_next(b"show");
+    rest.read::<WithheldWord>()?;
+    rest.end()?;
     Ok(Said {
-        built: is_built_view(0, kind)
-            && is_built_view(19, colouring)
-            && is_built_view(20, classes)
-            && is_built_view(21, withheld),
+        built: ortho && class && all && show,
         numbers,
     })
 }
 
-/// The view that a line of 22 words is: the projection, the camera's eighteen numbers in the order
-/// of `CameraNumbers`, the colouring, the class list, and whether withheld records show. `Line`
+/// The view that 22 words are: the projection, the camera's eighteen numbers in the order of
+/// `CameraNumbers`, the colouring, the class list, and whether withheld records show. `Line`
 /// names the first word that doesn't fit; `NotYet` comes where all words fit and the view isn't
 /// drawn so far; `Limit` comes for any other view whose camera has a number out of its range.
 /// Takes no memory.
+pub fn read_view_from(source: WordsOf) -> Result<ViewSpec, TextFault>
+    ensures view { result ≡ view_of (all_words source.entry) }
+    ensures built { IfOk result (λ v. v ≡ by_class v.camera) }
+{
+    match read_said(source) {
+        Ok(said) => view_by(said.built, &said.numbers),
+        Err(at) => Err(TextFault::Line { at }),
+    }
+}
+
+/// The view that a line is, or why it is none, as `read_view_from` says.
 pub fn read_view(line: &[u8]) -> Result<ViewSpec, TextFault>
     ensures view { result ≡ view_of (words line.now) }
     ensures built { IfOk result (λ v. v ≡ by_class v.camera) }
 {
-    match read_words(line) {
-        Ok(said) => view_by(said.built, &said.numbers),
-        Err(fault) => Err(fault),
-    }
+    read_view_from(WordsOf::Line(line))
 }
 
 #[cfg(test)]
 mod tests {
     use super::*;
     use int_camera::CameraLimit;
+    use std::alloc::{AllocError, Global};
     use std::test::Fail;
     use view_base::Colouring;
 
@@ -213,5 +170,51 @@ mod tests {
             value: 16777216,
         };
         assert_eq!(rt; read_view(large).err(), Some(TextFault::Limit(limit)));
+    }
+
+    fn separate(alloc: Global, line: &str) -> Result<Vec<String>, AllocError> {
+        let mut words = Vec::new(alloc);
+        for word in line.split(',') {
+            words.push(word.to_string(alloc)?)?;
+        }
+        Ok(words)
+    }
+
+    /// The place of the first of these words, with commas between them, that does not fit.
+    fn misfit(alloc: Global, line: &str) -> Result<Option<u32>, AllocError> {
+        let words = separate(alloc, line)?;
+        match read_view_from(WordsOf::Separate(&words)) {
+            Err(TextFault::Line { at }) => Ok(Some(at)),
+            _ => Ok(None),
+        }
+    }
+
+    #[test]
+    fn separate_words_may_be_empty_or_hold_blanks(rt: HostRuntime) -> Result<(), AllocError> {
+        for (line, at) in [
+            (
+                "ortho,3,1,0,0,0,1,0,0,0,1,0,0,0,1,1,1,0,10,class,all,show",
+                None,
+            ),
+            (
+                "ortho,3,1,0,0,0,1,0,0,0,1,0,0,0,1,1,1,0,10,class,all",
+                Some(21),
+            ),
+            (
+                "ortho,3,1,0,0,0,1,0,0,0,1,0,0,0,1,1,1,0,10,class,,show",
+                Some(20),
+            ),
+            (
+                "ortho,3,1,0,0,0,1,0,0,0,1,0,0,0,1,1,1,0,10,class,all,show ",
+                Some(21),
+            ),
+            (
+                "ortho,3,1,0,0,0,1,0,0,0,1,0,0,0,1,1,1,0,10,class,all,show,",
+                Some(22),
+            ),
+        ] {
+            assert_eq!(rt; misfit(rt.alloc(), line)?, at);
+        }
+        Ok(())
     }
 }

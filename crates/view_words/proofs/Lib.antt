@@ -3,5 +3,4 @@ pub mod Places
 pub mod Refusals
 pub mod Lines
 pub mod Names
-pub mod Numbers
 pub mod RowNames

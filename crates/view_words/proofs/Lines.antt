@@ -1,24 +1,35 @@
 -- What is known of the words of a row that fit: how many they are, and what its numbers and view words are.
-use Rattle.std.proofs.Common.{◌≡◌, ◌≢◌, ℕ, suc, ◌+◌, ◌*◌, ◌/◌, ◌-◌, ◌<◌, ◌≤◌, List, [], ◌∷◌, Option, Some, None, IsSome, ℤ, pos, negsuc, Bool, true, false, length, drop, take, map, refl, sym, ◌∙◌, ap, subst, arith, length-drop}
+use Rattle.std.proofs.Common.{◌≡◌, ◌≢◌, ℕ, suc, ◌+◌, ◌*◌, ◌/◌, ◌-◌, ◌<◌, ◌≤◌, List, [], ◌∷◌, Option, Some, None, Ok, Err, IsSome, ℤ, pos, negsuc, Bool, true, false, length, drop, take, map, refl, sym, ◌∙◌, ap, subst, arith, length-drop}
 use Rattle.std.proofs.lemmas.Bool.Decides.{nat_tests}
 use Rattle.std.proofs.lemmas.List.{drop-map, get_or-drop, length-map}
+use Rattle.std.specs.Option.{option_map_or}
 use Rattle.std.proofs.Math.Seq.{take-length}
 use Rattle.std.specs.Prelude.{String, string_bytes, ◌==◌, ◌%◌, not, nat_le, ◌&&◌, ◌^◌, is_none, if◌then◌else◌}
 use Rattle.view_base.specs.Text.{number}
-use Rattle.view_text.specs.ViewWords.{fits, fitting, words_fault, is_built, camera_numbers, view_by, view_of, word_at}
+use Rattle.view_base.specs.Fitting.{word_at}
+use Rattle.view_base.specs.Fitting.{misfit}
+use Rattle.view_base.proofs.Fitting.{misfit-none}
+use Rattle.view_meaning.specs.Camera.{orthographic}
+use Rattle.view_meaning.specs.Picture.{by_class}
+use Rattle.int_camera.specs.declared.numbers.CameraLimit.{CameraLimit}
+use Rattle.int_camera.specs.Limits.{first_outside, lens_of}
+use Rattle.view_text.specs.declared.fault.TextFault.TheVariants.{Limit}
+use Rattle.view_text.specs.declared.fault.TextFault.TheVariants as text
+use Rattle.view_text.specs.ViewWords as view
+use Rattle.view_text.specs.ViewWords.{fits, is_built, camera_numbers, view_by, view_of}
 use Rattle.view_words.specs.declared.row.Row.{Row}
 use Rattle.view_words.specs.declared.row.Row.TheVariants.{Draw, Info, Trial, Serve}
 use Rattle.view_words.specs.declared.kind.WordKind.{WordKind}
 use Rattle.view_words.specs.declared.kind.WordKind.TheVariants.{Workers, Start, Records, ViewWord}
 use Rattle.view_words.specs.CommandLine.{texts, kind_at, within, number_within, is_refused_as, is_refused, is_whole, least_words, IsLine, workers_place, view_words}
-use Rattle.view_words.proofs.Refusals.{is_refused-kind, unrefused, unrefused_few, none_refused, line_begins}
+use Rattle.view_words.proofs.Refusals.{is_refused-kind, unrefused, whole, unrefused_few, line_begins}
 
 pub length-texts : {Y : Type 0} (words : List (String Y)) → length (texts words) ≡ length words
 length-texts words = length-map words string_bytes
 
 -- no word of a line is refused
 pub line_unrefused : (row : Row) (ws : List (List ℕ)) → IsLine row ws → (k : ℕ) → k < length ws → is_refused row ws k ≡ false
-line_unrefused row ws line = unrefused row ws (none_refused row ws (line_begins row ws line).1).0
+line_unrefused row ws line = unrefused row ws (line_begins row ws line).1
 
 -- no word of a line is refused as what its row has at the place
 pub line_at : (row : Row) (ws : List (List ℕ)) (k : ℕ) (kind : WordKind) → IsLine row ws → k < length ws → kind_at row k ≡ kind → is_refused_as kind row ws k ≡ false
@@ -26,7 +37,7 @@ line_at row ws k kind line below is = sym (is_refused-kind row ws k kind is) ∙
 
 -- a line has all its words
 pub line_whole : (row : Row) (ws : List (List ℕ)) → IsLine row ws → is_whole row (length ws) ≡ true
-line_whole row ws line = (none_refused row ws (line_begins row ws line).1).1
+line_whole row ws line = whole row ws (line_begins row ws line).1
 
 -- a line has at most 36 words
 pub line_few : (row : Row) (ws : List (List ℕ)) → IsLine row ws → length ws ≤ 36
@@ -125,26 +136,25 @@ not_false false is = absurd (cc is)
 pub draw_fits : (ws : List (List ℕ)) (k : ℕ) → IsLine Draw ws → k < 22 → fits k (word_at ws (4 + k)) ≡ true
 draw_fits ws k line within = not_false (fits k (word_at ws (4 + k))) (line_at Draw ws (4 + k) (ViewWord k) line (omega (arith, length-draw ws line)) (view_place k within))
 
--- words that each fit their places
-fitting-all : (ws : List (List ℕ)) (place : ℕ) → ((k : ℕ) → k < length ws → fits (place + k) (word_at ws k) ≡ true) → fitting place ws ≡ length ws
-fitting-all [] place each = refl
-fitting-all (word ∷ others) place each =
-    let here : fits place word ≡ true = subst (λ (k : ℕ). fits k word ≡ true) (omega arith) (each 0 (omega arith)) in
-    let rest : fitting (place + 1) others ≡ length others = fitting-all others (place + 1) (λ k within. subst (λ (j : ℕ). fits j (word_at others k) ≡ true) (omega arith) (each (suc k) (omega arith))) in
-    rw here (omega (arith, rest))
-
 -- the view words of a `draw` are those of a view
-pub words_fault-draw : (ws : List (List ℕ)) → IsLine Draw ws → words_fault (view_words ws) ≡ None
-unfolding words_fault
-words_fault-draw ws line =
+misfit-draw : (ws : List (List ℕ)) → IsLine Draw ws → misfit fits view.is_whole (view_words ws) ≡ None
+misfit-draw ws line =
     let count : length (drop 4 ws) ≡ 22 = omega (arith, length-drop 4 ws, length-draw ws line) in
-    let fit : fitting 0 (drop 4 ws) ≡ 22 = fitting-all (drop 4 ws) 0 (λ k within. subst (λ (word : List ℕ). fits (0 + k) word ≡ true) (sym (get_or-drop 4 ws k [])) (subst (λ (j : ℕ). fits j (word_at ws (4 + k)) ≡ true) (omega arith) (draw_fits ws k line (omega arith)))) ∙ count in
-    rw (count, fit) refl
+    misfit-none fits view.is_whole (drop 4 ws) (λ k within. subst (λ (word : List ℕ). fits k word ≡ true) (sym (get_or-drop 4 ws k [])) (draw_fits ws k line (omega arith))) (ap view.is_whole count)
 
--- the view of a `draw`: none of its words is a fault
+-- the view of a `draw`: each of its words fits
 pub view_of-draw : (ws : List (List ℕ)) → IsLine Draw ws → view_of (view_words ws) ≡ view_by (is_built (view_words ws)) (camera_numbers (view_words ws))
 unfolding view_of
-view_of-draw ws line = rw (words_fault-draw ws line) refl
+view_of-draw ws line = rw (misfit-draw ws line) refl
+
+view_through-words : (o : Option CameraLimit) (n : List ℤ) (at : ℕ) → option_map_or (λ limit. Err (Limit limit)) o (Ok (by_class (lens_of orthographic n))) ≡ Err (text.Line at) → ⊥
+view_through-words None n at is = absurd (cc is)
+view_through-words (Some limit) n at is = absurd (cc is)
+
+-- words that fit are refused for none of them
+pub view_by-words : (built : Bool) (n : List ℤ) (at : ℕ) → view_by built n ≡ Err (text.Line at) → ⊥
+view_by-words true n at is = view_through-words (first_outside orthographic n) n at is
+view_by-words false n at is = absurd (cc is)
 
 -- the texts of the words from place 4 on
 pub texts-from : {Y : Type 0} (words : List (String Y)) → 4 ≤ length words → map string_bytes (take (length words - 4) (drop 4 words)) ≡ view_words (texts words)

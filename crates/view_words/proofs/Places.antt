@@ -4,34 +4,6 @@ use Rattle.std.proofs.lemmas.Bool.{cases_eq}
 use Rattle.std.proofs.Math.Bool.{or-true}
 use Rattle.std.specs.List.{find, list_any, range_with_len}
 
--- where no place passes
-pub find-range_none : (test : ℕ → Bool) (a n : ℕ) → ((k : ℕ) → a ≤ k → k < a + n → test k ≡ false) → find test (range_with_len a n) ≡ None
-find-range_none test a zero none = refl
-find-range_none test a (suc n) none =
-    rw (none a (omega arith) (omega arith)) (find-range_none test (a + 1) n (λ k from below. none k (omega arith) (omega arith)))
-
--- the first place that passes
-pub find-range_first : (test : ℕ → Bool) (a n at : ℕ) → a ≤ at → at < a + n → ((k : ℕ) → a ≤ k → k < at → test k ≡ false) → test at ≡ true → find test (range_with_len a n) ≡ Some at
-find-range_first test a zero at from below before here = absurd (omega arith)
-find-range_first test a (suc n) at from below before here =
-    elim (cases_eq a at) [
-      | inl same ↦ let passes : test a ≡ true = ap test same ∙ here in rw passes (ap (λ (k : ℕ). Some k) same)
-      | inr other ↦ rw (before a (omega arith) (omega arith)) (find-range_first test (a + 1) n at (omega arith) (omega arith) (λ k f b. before k (omega arith) b) here)
-    ]
-
-two_finds : (x : ℕ) (o : Option ℕ) (b : Bool) → cond b (Some x) o ≡ None → (b ≡ false) × (o ≡ None)
-two_finds x o true found = absurd (cc found)
-two_finds x o false found = (refl, found)
-
--- where none is found, none passes
-pub range_none : (test : ℕ → Bool) (a n : ℕ) → find test (range_with_len a n) ≡ None → (k : ℕ) → a ≤ k → k < a + n → test k ≡ false
-range_none test a zero none k from below = absurd (omega arith)
-range_none test a (suc n) none k from below =
-    elim (cases_eq a k) [
-      | inl same ↦ ap test (sym same) ∙ (two_finds a (find test (range_with_len (a + 1) n)) (test a) none).0
-      | inr other ↦ range_none test (a + 1) n (two_finds a (find test (range_with_len (a + 1) n)) (test a) none).1 k (omega arith) (omega arith)
-    ]
-
 found_first : {X : Type 0} (test : X → Bool) (y x : X) (o : Option X) (b : Bool) → test y ≡ b → cond b (Some y) o ≡ Some x → (o ≡ Some x → test x ≡ true) → test x ≡ true
 found_first test y x o true is found later = let e : y ≡ x = cc found in ap test (sym e) ∙ is
 found_first test y x o false is found later = later found

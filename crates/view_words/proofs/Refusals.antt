@@ -1,17 +1,18 @@
 -- What the refusal of a word, and of a line, says.
 use Rattle.std.proofs.Common.{◌≡◌, ℕ, ◌<◌, ◌≤◌, List, [], ◌∷◌, Option, Some, None, Bool, true, false, cond, length, inl, inr, refl, sym, ◌∙◌, ap, arith}
-use Rattle.std.proofs.lemmas.Bool.{cases_lt}
+use Rattle.std.proofs.lemmas.Bool.{cases_lt, not-true}
 use Rattle.std.proofs.lemmas.Slice.Eq.{bytes_eq-Decides}
-use Rattle.std.specs.Option.{option_or}
+use Rattle.std.specs.Option.{option_map_or}
 use Rattle.std.specs.List.{find}
 use Rattle.std.specs.Str.{bytes_eq}
-use Rattle.std.specs.Prelude.{if◌then◌else◌}
-use Rattle.view_text.specs.ViewWords.{word_at}
+use Rattle.std.specs.Prelude.{not}
+use Rattle.view_base.proofs.Fitting.{misfit-at, misfit-short, misfit-none, fits-each, fits-whole}
+use Rattle.view_base.specs.Fitting.{word_at}
 use Rattle.view_words.specs.declared.row.Row.{Row}
 use Rattle.view_words.specs.declared.row.Row.TheVariants.{Draw, Info, Trial, Serve}
 use Rattle.view_words.specs.declared.kind.WordKind.{WordKind}
-use Rattle.view_words.specs.CommandLine.{command, all_rows, row_in, kind_at, is_refused_as, is_refused, first_refused, is_whole, badword_in, badword_of, badword, IsLine}
-use Rattle.view_words.proofs.Places.{find-range_none, find-range_first, range_none, find_passes}
+use Rattle.view_words.specs.CommandLine.{command, all_rows, row_in, kind_at, is_refused_as, is_refused, is_whole, badword_in, badword, IsLine}
+use Rattle.view_words.proofs.Places.{find_passes}
 
 -- a word of a known kind
 pub is_refused-kind : (row : Row) (ws : List (List ℕ)) (k : ℕ) (kind : WordKind) → kind_at row k ≡ kind → is_refused row ws k ≡ is_refused_as kind row ws k
@@ -34,43 +35,29 @@ unrefused_few row ws n none =
       | inr few ↦ few
     ]
 
--- the first refused word
-pub first_refused-at : (row : Row) (ws : List (List ℕ)) (k : ℕ) → k < length ws → ((j : ℕ) → j < k → is_refused row ws j ≡ false) → is_refused row ws k ≡ true → first_refused row ws ≡ Some k
-unfolding first_refused
-first_refused-at row ws k below before here = find-range_first (is_refused row ws) 0 (length ws) k (omega arith) (omega arith) (λ j _ b. before j b) here
-
--- no refused word
-pub first_refused-none : (row : Row) (ws : List (List ℕ)) → ((k : ℕ) → k < length ws → is_refused row ws k ≡ false) → first_refused row ws ≡ None
-unfolding first_refused
-first_refused-none row ws none = find-range_none (is_refused row ws) 0 (length ws) (λ k _ below. none k (omega arith))
-
--- where none is refused, each word stands
-pub unrefused : (row : Row) (ws : List (List ℕ)) → first_refused row ws ≡ None → (k : ℕ) → k < length ws → is_refused row ws k ≡ false
-unfolding first_refused
-unrefused row ws none k below = range_none (is_refused row ws) 0 (length ws) none k (omega arith) (omega arith)
-
--- a refused word goes before a missing one
-pub badword_in-refused : (row : Row) (ws : List (List ℕ)) (at : ℕ) → first_refused row ws ≡ Some at → badword_in row ws ≡ Some at
+-- a refused word after words that aren't
+pub badword_in-refused : (row : Row) (ws : List (List ℕ)) (at : ℕ) → at < length ws → ((k : ℕ) → k < at → is_refused row ws k ≡ false) → is_refused row ws at ≡ true → badword_in row ws ≡ Some at
 unfolding badword_in
-badword_in-refused row ws at refused = rw refused refl
+badword_in-refused row ws at below before here = misfit-at _ _ ws at below (λ k early. ap not (before k early)) (ap not here)
 
-pub badword_in-missing : (row : Row) (ws : List (List ℕ)) → first_refused row ws ≡ None → is_whole row (length ws) ≡ false → badword_in row ws ≡ Some (length ws)
+-- words of which none is refused, and one is missing
+pub badword_in-missing : (row : Row) (ws : List (List ℕ)) → ((k : ℕ) → k < length ws → is_refused row ws k ≡ false) → is_whole row (length ws) ≡ false → badword_in row ws ≡ Some (length ws)
 unfolding badword_in
-badword_in-missing row ws none part = rw (none, part) refl
+badword_in-missing row ws none part = misfit-short _ _ ws (λ k below. ap not (none k below)) part
 
-pub badword_in-none : (row : Row) (ws : List (List ℕ)) → first_refused row ws ≡ None → is_whole row (length ws) ≡ true → badword_in row ws ≡ None
+-- words of which none is refused or missing
+pub badword_in-none : (row : Row) (ws : List (List ℕ)) → ((k : ℕ) → k < length ws → is_refused row ws k ≡ false) → is_whole row (length ws) ≡ true → badword_in row ws ≡ None
 unfolding badword_in
-badword_in-none row ws none whole = rw (none, whole) refl
-
-neither : (o : Option ℕ) (n : ℕ) (b : Bool) → option_or o (if b then None else Some n) ≡ None → (o ≡ None) × (b ≡ true)
-neither None n true is = (refl, refl)
-neither None n false is = absurd (cc is)
-neither (Some k) n b is = absurd (cc is)
+badword_in-none row ws none whole = misfit-none _ _ ws (λ k below. ap not (none k below)) whole
 
 -- in words that fit none is refused and none is missing
-pub none_refused : (row : Row) (ws : List (List ℕ)) → badword_in row ws ≡ None → (first_refused row ws ≡ None) × (is_whole row (length ws) ≡ true)
+pub unrefused : (row : Row) (ws : List (List ℕ)) → badword_in row ws ≡ None → (k : ℕ) → k < length ws → is_refused row ws k ≡ false
 unfolding badword_in
-none_refused row ws fits = neither (first_refused row ws) (length ws) (is_whole row (length ws)) fits
+unrefused row ws fits k below = not-true (is_refused row ws k) (fits-each (λ k word. not (is_refused row ws k)) (is_whole row) ws k fits below)
+
+pub whole : (row : Row) (ws : List (List ℕ)) → badword_in row ws ≡ None → is_whole row (length ws) ≡ true
+unfolding badword_in
+whole row ws fits = fits-whole (λ k word. not (is_refused row ws k)) (is_whole row) ws fits
 
 -- words that begin one of the rows that are taken, or none of them
 pub badword-begun : (rows : List Row) (row : Row) (ws : List (List ℕ)) → row_in rows ws ≡ Some row → badword rows ws ≡ badword_in row ws
@@ -96,7 +83,7 @@ begins_with rows row ws begun = find_passes (λ (row : Row). bytes_eq (word_at w
 pub badword-row : (rows : List Row) (row : Row) (ws : List (List ℕ)) → row_in rows ws ≡ Some row → badword (row ∷ []) ws ≡ badword rows ws
 badword-row rows row ws begun = badword-begun (row ∷ []) row ws (row_in-own row ws (begins_with rows row ws begun)) ∙ sym (badword-begun rows row ws begun)
 
-own : (row : Row) (ws : List (List ℕ)) (b : Bool) → badword_of (cond b (Some row) None) ws ≡ None → (b ≡ true) × (badword_in row ws ≡ None)
+own : (row : Row) (ws : List (List ℕ)) (b : Bool) → option_map_or (λ row. badword_in row ws) (cond b (Some row) None) (Some 0) ≡ None → (b ≡ true) × (badword_in row ws ≡ None)
 own row ws true fits = (refl, fits)
 own row ws false fits = absurd (cc fits)
 

@@ -1,7 +1,7 @@
 -- The names of a `draw`, an `info`, a `trial` and a `serve` that fit.
 use Rattle.std.proofs.Common.{◌≡◌, ◌≢◌, ℕ, ◌+◌, ◌*◌, ◌<◌, List, [], length, arith}
 use Rattle.std.specs.Prelude.{codes}
-use Rattle.view_text.specs.ViewWords.{word_at}
+use Rattle.view_base.specs.Fitting.{word_at}
 use Rattle.view_words.specs.declared.row.Row.TheVariants.{Draw, Info, Trial, Serve}
 use Rattle.view_words.specs.CommandLine.{IsLine}
 use Rattle.view_words.proofs.Lines.{length-draw, length-info, length-trial, length-serve}

@@ -5,10 +5,11 @@
 --   serve SURVEY WORKERS JOURNAL IN1 OUT1 .., with 1 to 16 pairs
 use Rattle.std.specs.Prelude.{◌≡◌, ℕ, ◌-◌, ◌%◌, ◌^◌, ◌==◌, ◌&&◌, ◌||◌, not, nat_le, ℤ, pos, negsuc, Bool, true, false, List, [], ◌∷◌, map, length, drop, String, string_bytes, codes, Option, Some, None, is_none, if◌then◌else◌}
 use Rattle.std.specs.List.{find, list_any, range_with_len}
-use Rattle.std.specs.Option.{option_or}
+use Rattle.std.specs.Option.{option_map_or}
 use Rattle.std.specs.Str.{bytes_eq}
 use Rattle.view_base.specs.Text.{number}
-use Rattle.view_text.specs.ViewWords.{fits, word_at}
+use Rattle.view_base.specs.Fitting.{word_at, misfit}
+use Rattle.view_text.specs.ViewWords.{fits}
 use Rattle.view_words.specs.declared.row.Row.{Row}
 use Rattle.view_words.specs.declared.row.Row.TheVariants.{Draw, Info, Trial, Serve}
 use Rattle.view_words.specs.declared.kind.WordKind.{WordKind}
@@ -92,10 +93,6 @@ is_refused_as NoWord row ws k = true
 unfoldable pub is_refused : Row → List (List ℕ) → ℕ → Bool
 is_refused row ws k = is_refused_as (kind_at row k) row ws k
 
--- the place of the first refused word of a row, or none
-unfoldable pub first_refused : Row → List (List ℕ) → Option ℕ
-first_refused row ws = find (is_refused row ws) (range_with_len 0 (length ws))
-
 -- whether so many words are all that a row needs: `serve` needs a pair, and each pair whole
 abbrev pub is_whole : Row → ℕ → Bool
 is_whole Draw n = n == 26
@@ -110,22 +107,14 @@ least_words Info = 3
 least_words Trial = 5
 least_words Serve = 6
 
--- the number of words where a row needs more of them, or none
-abbrev pub missing : Row → List (List ℕ) → Option ℕ
-missing row ws = if is_whole row (length ws) then None else Some (length ws)
-
 -- the first refused word of a row, or the number of words where more are needed, or none
 unfoldable pub badword_in : Row → List (List ℕ) → Option ℕ
-badword_in row ws = option_or (first_refused row ws) (missing row ws)
+badword_in row ws = misfit (λ k word. not (is_refused row ws k)) (is_whole row) ws
 
--- the same of the row that the words begin, and place 0 where they begin none
-abbrev pub badword_of : Option Row → List (List ℕ) → Option ℕ
-badword_of None ws = Some 0
-badword_of (Some row) ws = badword_in row ws
-
--- the first refused word of a command line by the rows that are taken, or the number of words where more are needed, or none
+-- the first refused word of a command line by the rows that are taken, or the number of words where more are needed, or
+-- none; place 0 where the words begin no row
 unfoldable pub badword : List Row → List (List ℕ) → Option ℕ
-badword rows ws = badword_of (row_in rows ws) ws
+badword rows ws = option_map_or (λ row. badword_in row ws) (row_in rows ws) (Some 0)
 
 -- the words of a row that fit
 abbrev pub IsLine : Row → List (List ℕ) → Type 0

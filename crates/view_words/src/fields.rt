@@ -1,13 +1,14 @@
-ghost use Rattle.std.specs.Prelude.{◌≡◌, ◌≢◌, ◌+◌, ◌*◌, ◌^◌, ◌<◌, ◌≤◌, pos, length, Some};
+ghost use Rattle.std.specs.Prelude.{◌≡◌, ◌≢◌, ℕ, ◌+◌, ◌*◌, ◌^◌, ◌<◌, ◌≤◌, pos, length, Some, IfOk, IfErr};
 ghost use Rattle.view_base.specs.Text.{number};
-ghost use Rattle.view_text.specs.ViewWords as view;
-ghost use Rattle.view_text.specs.ViewWords.{word_at, camera_numbers};
+ghost use Rattle.view_base.specs.Fitting.{word_at};
+ghost use Rattle.view_meaning.specs.Picture.{by_class};
+ghost use Rattle.view_text.specs.ViewWords.{camera_numbers, is_built, view_by};
 ghost use Rattle.view_words.specs.CommandLine.{texts, IsLine, workers_place, view_words};
 
 use crate::refusing::{MAX_RECORDS, MAX_WORKERS, number_within};
 use crate::row::Row;
-use view_base::read_number;
-use view_text::is_built_view;
+use view_base::WordsOf;
+use view_text::{TextFault, ViewSpec, read_view_from};
 
 /// The text of the word at a place, from 0.
 pub fn text_at(words: &[String], at: usize) -> &str
@@ -66,26 +67,15 @@ pub fn pair_count(words: &[String]) -> u32
     ((words.len() - 4) / 2) as u32
 }
 
-/// The camera's eighteen numbers in the words of a `draw`, in the order of `CameraNumbers`.
-pub fn numbers_of(words: &[String]) -> [i128; 18]
+/// The view that the words of a `draw` ask for, or why it can't be drawn: `NotYet` where it isn't
+/// drawn so far, and `Limit` for any other whose camera has a number out of its range. Takes no
+/// memory.
+pub fn view_of_draw(words: &[String]) -> Result<ViewSpec, TextFault>
     requires { IsLine Row.Draw (texts words.now) }
-    ensures { result ≡ camera_numbers (view_words (texts words.now)) }
+    ensures view { let ws = view_words (texts words.now) in
+        result ≡ view_by (is_built ws) (camera_numbers ws) }
+    ensures built { IfOk result (λ v. v ≡ by_class v.camera) }
+    ensures line { IfErr result (λ fault. (at : ℕ) → fault ≡ TextFault.Line at → ⊥) }
 {
-    let mut numbers = [0; 18];
-    for i in 0..18 {
-        numbers[i] = read_number(text_at(words, 5 + i).as_bytes()).unwrap();
-    }
-    numbers
-}
-
-/// Whether the words of a `draw` ask for a view that is drawn so far: `ortho`, `class`, `all` and
-/// `show` at the places 4 and 23 to 25.
-pub fn is_built(words: &[String]) -> bool
-    requires { IsLine Row.Draw (texts words.now) }
-    ensures { result ≡ view.is_built (view_words (texts words.now)) }
-{
-    is_built_view(0, text_at(words, 4).as_bytes())
-        && is_built_view(19, text_at(words, 23).as_bytes())
-        && is_built_view(20, text_at(words, 24).as_bytes())
-        && is_built_view(21, text_at(words, 25).as_bytes())
+    read_view_from(WordsOf::Separate(&words[4..]))
 }

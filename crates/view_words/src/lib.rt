@@ -8,6 +8,6 @@ mod reading;
 mod refusing;
 mod row;
 
-pub use fields::{is_built, numbers_of, pair_count, records, start, text_at, workers};
+pub use fields::{pair_count, records, start, text_at, view_of_draw, workers};
 pub use reading::{read_row, read_words};
 pub use row::Row;

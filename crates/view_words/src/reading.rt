@@ -42,8 +42,10 @@ pub fn read_row(row: Row, words: &[String]) -> Result<(), u32>
 #[cfg(test)]
 mod tests {
     use super::*;
-    use crate::fields::{is_built, numbers_of, pair_count, records, start, text_at, workers};
+    use crate::fields::{pair_count, records, start, text_at, view_of_draw, workers};
+    use int_camera::CameraLimit;
     use std::alloc::{AllocError, Global};
+    use view_text::TextFault;
 
     /// The words of a line, which single spaces part; two spaces have an empty word between them.
     fn words(alloc: Global, line: &str) -> Result<Vec<String>, AllocError> {
@@ -166,23 +168,35 @@ mod tests {
     }
 
     #[test]
-    fn the_numbers_of_a_draw_are_told(rt: HostRuntime) -> Result<(), AllocError> {
-        let line = "draw a b 1 ortho 1 2 3 4 5 6 7 8 9 10 11 12 13 14 15 16 17 -18 class all show";
-        let draw = words(rt.alloc(), line)?;
+    fn the_view_of_a_draw_is_told(rt: HostRuntime) -> Result<(), AllocError> {
+        let draw = words(
+            rt.alloc(),
+            "draw a b 1 ortho 3 2 0 0 0 1 0 0 0 1 0 0 0 1 1 1 0 10 class all show",
+        )?;
         assert!(rt; read_row(Row::Draw, &draw).is_ok());
-        assert_eq!(rt; workers(Row::Draw, &draw), 1);
-        assert_eq!(rt; numbers_of(&draw)[0], 1);
-        assert_eq!(rt; numbers_of(&draw)[17], -18);
-        assert!(rt; is_built(&draw));
+        assert_eq!(rt;
+            view_of_draw(&draw).map(|view| view.camera.width()).ok(),
+            Some(3)
+        );
         Ok(())
     }
 
     #[test]
-    fn a_view_of_some_classes_is_not_drawn_so_far(rt: HostRuntime) -> Result<(), AllocError> {
-        let line = "draw a b 1 ortho 1 2 3 4 5 6 7 8 9 10 11 12 13 14 15 16 17 18 class 0-255 show";
-        let draw = words(rt.alloc(), line)?;
-        assert!(rt; read_row(Row::Draw, &draw).is_ok());
-        assert!(rt; !is_built(&draw));
+    fn a_view_that_cannot_be_drawn_is_told(rt: HostRuntime) -> Result<(), AllocError> {
+        for (line, fault) in [
+            (
+                "draw a b 1 ortho 0 2 0 0 0 1 0 0 0 1 0 0 0 1 1 1 0 10 class 0-255 show",
+                TextFault::NotYet,
+            ),
+            (
+                "draw a b 1 ortho 0 2 0 0 0 1 0 0 0 1 0 0 0 1 1 1 0 10 class all show",
+                TextFault::Limit(CameraLimit { place: 1, value: 0 }),
+            ),
+        ] {
+            let draw = words(rt.alloc(), line)?;
+            assert!(rt; read_row(Row::Draw, &draw).is_ok());
+            assert_eq!(rt; view_of_draw(&draw).err(), Some(fault));
+        }
         Ok(())
     }
 }

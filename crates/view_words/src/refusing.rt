@@ -1,5 +1,5 @@
 ghost use Rattle.std.specs.Prelude.{◌≡◌, ◌<◌, length};
-ghost use Rattle.view_words.specs.CommandLine.{texts, number_within, bars, barred, is_taken, is_refused_name, is_refused, is_whole, first_refused, badword_in};
+ghost use Rattle.view_words.specs.CommandLine.{texts, number_within, bars, barred, is_taken, is_refused_name, is_refused, is_whole, badword_in};
 
 use crate::fields::text_at;
 use crate::kind::{WordKind, kind_at};
@@ -92,18 +92,6 @@ fn is_refused(row: Row, words: &[String], at: usize) -> bool
     }
 }
 
-/// The first word that a row refuses, by its place from 0.
-fn first_refused(row: Row, words: &[String]) -> Option<u32>
-    ensures { result ≡ first_refused row (texts words.now) }
-{
-    for at in 0..words.len() {
-        if is_refused(row, words, at) {
-            return Some(at as u32);
-        }
-    }
-    None
-}
-
 /// Whether so many words are all that a row needs.
 fn is_whole(row: Row, count: usize) -> bool
     ensures { result ≡ is_whole row count }
@@ -120,8 +108,10 @@ fn is_whole(row: Row, count: usize) -> bool
 pub(crate) fn badword_in(row: Row, words: &[String]) -> Option<u32>
     ensures { result ≡ badword_in row (texts words.now) }
 {
-    if let Some(at) = first_refused(row, words) {
-        return Some(at);
+    for at in 0..words.len() {
+        if is_refused(row, words, at) {
+            return Some(at as u32);
+        }
     }
     if is_whole(row, words.len()) {
         None

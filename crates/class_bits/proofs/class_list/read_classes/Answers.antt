@@ -5,7 +5,7 @@ use Rattle.std.specs.List.{slice_split}
 use Rattle.std.proofs.lemmas.List.Splits.{length-slice_split}
 use Rattle.std.proofs.lemmas.Iterator.Splits.{YieldsList-from_slice_split}
 use Rattle.std.proofs.lemmas.Iterator.Consumers.{YieldsList-turn, YieldsList-end}
-use Rattle.class_bits.specs.ClassList.{is_comma}
+use Rattle.class_bits.specs.ClassSet.{is_comma}
 use Rattle.class_bits.proofs.Items.{class_list-all, class_list-items, joined-stopped, joined-more, joined-all}
 use Rattle.class_bits.proofs.Sets.{members-some, members-added}
 use Rattle.class_bits.proofs.class_list.read_classes.Goals as goal

@@ -1,7 +1,8 @@
 use Rattle.std.proofs.Common.{◌≡◌, ◌<◌, length, drop}
 use Rattle.std.specs.List.{slice_split}
-use Rattle.class_bits.specs.ClassSet.{IsClassSet, no_classes, members}
-use Rattle.class_bits.specs.ClassList.{is_comma}
+use Rattle.class_bits.specs.ClassSet.{no_classes, members}
+use Rattle.class_bits.specs.Kept.{IsClassSet}
+use Rattle.class_bits.specs.ClassSet.{is_comma}
 use Rattle.class_bits.proofs.Items.{joined}
 use Rattle.class_bits.proofs.class_list.read_classes.Given as goal
 

@@ -1,7 +1,7 @@
 use Rattle.std.proofs.Common.{ℕ, List, Bool, true, false, ◌≤◌, arith, subst, sym, ap, ◌≡◌, ◌∙◌, ◌+◌, get_or, map, length}
 use Rattle.view_meaning.specs.Survey.{point_of, record_count, format_of}
 use Rattle.view_meaning.specs.Classes.{Edit, class_after}
-use Rattle.class_pages.specs.Changed.{after_edit}
+use Rattle.class_pages.specs.AfterEdit.{after_edit}
 use mir.Val.{bool_byte}
 use Rattle.std.specs.List.{range_with_len}
 use Rattle.class_pages.proofs.Steps.{IsMadeBelow, made_nothing, made_more, made_all, counted_more, changed_counted, after_edit-classes}

@@ -1,5 +1,5 @@
 use Rattle.std.proofs.Common.{◌≡◌}
-use Rattle.edit_ops.specs.Canonical.{members_from}
+use Rattle.edit_ops.specs.Reading.{members_from}
 use Rattle.edit_ops.proofs.runs.first_from.Given as goal
 
 abbrev pub invariant-loop-class : goal.invariant-loop-class

@@ -1,11 +1,12 @@
 use Rattle.std.proofs.Common.{◌++◌, sym, ap, ◌∙◌, arith}
-use Rattle.edit_ops.specs.Canonical.{runs, members_from}
+use Rattle.edit_ops.specs.EditLine.{runs}
+use Rattle.edit_ops.specs.Reading.{members_from}
 use Rattle.edit_ops.proofs.ListText.{text_from, one_item, no_item, classes_text-all, classes_text-runs}
 use Rattle.edit_ops.proofs.writing.append_classes.Goals as goal
 
 pub returns-then-eq-clause-appended : goal.returns-then-eq-clause-appended
 returns-then-eq-clause-appended c =
-    c.append.ensures.appended ∙ ap (λ text. c.args.out.now.items ++ text) (sym (classes_text-all c.args.classes.now (rw c.all.ensures.value at (sym c.if-eq.ensures))))
+    c.append_within.ensures.appended ∙ ap (λ text. c.args.out.now.items ++ text) (sym (classes_text-all c.args.classes.now (rw c.all.ensures.value at (sym c.if-eq.ensures))))
 
 pub loop-first-preserved : goal.loop-first-preserved
 loop-first-preserved c =

@@ -1,5 +1,6 @@
 use Rattle.std.proofs.Common.{◌≡◌, ◌+◌, ◌-◌, ◌*◌, ◌≤◌, ◌++◌}
-use Rattle.edit_ops.specs.Canonical.{runs, members_from}
+use Rattle.edit_ops.specs.EditLine.{runs}
+use Rattle.edit_ops.specs.Reading.{members_from}
 use Rattle.edit_ops.proofs.ListText.{text_from}
 use Rattle.edit_ops.proofs.writing.append_classes.Given as goal
 

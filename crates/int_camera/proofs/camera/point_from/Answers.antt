@@ -1,7 +1,7 @@
 use Rattle.std.proofs.Common.{◌≡◌, ◌+◌, ◌-◌, ℤ, pos, List, get_or, FitsSigned, w32, arith}
 use Rattle.std.proofs.lemmas.Int.{ints, to_z-of_z}
 use mir.Syntax.{w128}
-use Rattle.int_camera.specs.Limits.{IsCoordinate}
+use Rattle.int_camera.specs.Kept.{IsCoordinate}
 use Rattle.int_camera.proofs.camera.point_from.Goals as goal
 
 pub returns : goal.returns

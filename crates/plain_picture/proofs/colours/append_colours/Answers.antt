@@ -1,4 +1,4 @@
-use Rattle.std.proofs.Common.{◌≡◌, ◌*◌, ◌+◌, ◌++◌, ◌≤◌, IsOk, sym, length, length-append, ◌∙◌, ap, arith, rules}
+use Rattle.std.proofs.Common.{◌≡◌, ◌*◌, ◌+◌, ◌++◌, ◌≤◌, sym, length, length-append, ◌∙◌, ap, arith, rules}
 use Rattle.std.specs.Slice.Iter.{chunks_rest}
 use Rattle.view_base.specs.declared.colour.Colouring.TheVariants.{Class}
 use Rattle.view_meaning.specs.Frame.{word_colour}
@@ -10,10 +10,9 @@ loop-chunk-preserved c =
     let steps = c.in-Some.ensures.steps in
     let chunk = c.in-Some.chunk.now in
     let size : length c.colour_pixels.new.colours ≡ 3 * length chunk = search rules in
-    let ok : IsOk c.append.result = search rules in
-    let appended : c.append.new.self.items ≡ c.loop-chunk.out.items ++ c.colour_pixels.new.colours =
-    appended_front c.append.result c.append.new.self.items c.loop-chunk.out.items c.colour_pixels.new.colours _ (3 * length chunk) ok c.append.ensures.appended (sym size) in
-    let room : c.loop-chunk.out.spare ≤ c.append.new.self.spare + 3 * length chunk = search rules in
+    let appended : c.append_within.new.self.items ≡ c.loop-chunk.out.items ++ c.colour_pixels.new.colours =
+    appended_front c.append_within.new.self.items c.loop-chunk.out.items c.colour_pixels.new.colours _ (3 * length chunk) c.append_within.ensures.appended (sym size) in
+    let room : c.loop-chunk.out.spare ≤ c.append_within.new.self.spare + 3 * length chunk = search rules in
     let parts : length (chunks_rest c.loop-chunk.chunk-iterator) ≡ length chunk + length (chunks_rest c.next.new.self) = ap length steps.1.0 ∙ length-append chunk (chunks_rest c.next.new.self) in (
       search rules,
       tt,
@@ -21,6 +20,6 @@ loop-chunk-preserved c =
       search rules,
       omega (arith, room, c.loop-chunk.invariant.4, parts),
       all_rest (length c.args.classes.now) chunk (chunks_rest c.next.new.self) (chunks_rest c.loop-chunk.chunk-iterator) steps.1.0 c.loop-chunk.invariant.5,
-      λ b. colours_more (word_colour b c.args.classes.now Class) c.loop-chunk.out.items c.append.new.self.items c.colour_pixels.new.colours chunk (chunks_rest c.next.new.self) (chunks_rest c.loop-chunk.chunk-iterator) _
+      λ b. colours_more (word_colour b c.args.classes.now Class) c.loop-chunk.out.items c.append_within.new.self.items c.colour_pixels.new.colours chunk (chunks_rest c.next.new.self) (chunks_rest c.loop-chunk.chunk-iterator) _
           appended (c.colour_pixels.ensures b) steps.1.0 (c.loop-chunk.invariant.6 b),
     )

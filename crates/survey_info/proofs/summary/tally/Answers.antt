@@ -1,8 +1,9 @@
 use Rattle.std.proofs.Common.{◌≡◌, ◌<◌, ◌+◌, ◌∙◌, sym, refl, arith, ◌≤◌, ℕ, List, [], get_or}
+use Rattle.std.specs.Int.{int_min, int_max}
 use Rattle.view_meaning.specs.Survey.{point_of}
 use Rattle.view_meaning.specs.Classes.{class_at}
 use Rattle.view_meaning.proofs.Reading.{point-from_part}
-use Rattle.survey_info.proofs.Corners.{least_corner-begins, greatest_corner-begins, least_corner-more, greatest_corner-more, area_of-none, area_of-some}
+use Rattle.survey_info.proofs.Corners.{corner-begins, corner-more, area_of-none, area_of-some}
 use Rattle.survey_info.proofs.Counts.{tally-begins, tally-few, tally-more, tally-ends, tally-none, class_at-from_part}
 use Rattle.survey_info.proofs.summary.tally.Goals as goal
 
@@ -16,8 +17,8 @@ pub loop-i-init : goal.loop-i-init
 loop-i-init c =
     let first : c.xyz-first.result ≡ point_of c.args.survey.now 0 = point-from_part c.args.survey.now 0 _ c.xyz-first.result c.point_bytes.ensures.least c.point_bytes.ensures.bytes c.xyz-first.ensures in
     record {
-      least = least_corner-begins c.args.survey.now c.xyz-first.result first;
-      greatest = greatest_corner-begins c.args.survey.now c.xyz-first.result first;
+      least = corner-begins int_min c.args.survey.now c.xyz-first.result first;
+      greatest = corner-begins int_max c.args.survey.now c.xyz-first.result first;
       tally = tally-begins c.args.survey.now c.args.counts.now c.requires;
     }
 
@@ -35,8 +36,8 @@ loop-i-preserved c =
     c.from.ensures ∙ class_at-from_part b c.loop-i.i c.point_bytes-rec.result.now c.header.result.now.format c.class_place.result (get_or c.point_bytes-rec.result.now c.class_place.result 0) c.class_of-class.result
     c.header.ensures.fields.format c.class_place.ensures c.point_bytes-rec.ensures.least c.point_bytes-rec.ensures.bytes refl c.class_of-class.ensures.class in
     record {
-      least = least_corner-more b c.loop-i.i (c.loop-i.i + 1) c.loop-i.min c.lesser-min.result c.xyz-p.result refl c.loop-i.invariant.least p c.lesser-min.ensures;
-      greatest = greatest_corner-more b c.loop-i.i (c.loop-i.i + 1) c.loop-i.max c.greater-max.result c.xyz-p.result refl c.loop-i.invariant.greatest p c.greater-max.ensures;
+      least = corner-more int_min b c.loop-i.i (c.loop-i.i + 1) c.loop-i.min c.lesser-min.result c.xyz-p.result refl c.loop-i.invariant.least p c.lesser-min.ensures;
+      greatest = corner-more int_max b c.loop-i.i (c.loop-i.i + 1) c.loop-i.max c.greater-max.result c.xyz-p.result refl c.loop-i.invariant.greatest p c.greater-max.ensures;
       tally = tally-more b c.loop-i.counts c.loop-i.i (c.loop-i.i + 1) c.from.result (get_or c.loop-i.counts c.from.result 0 + 1) refl (omega (arith, c.from.ensures, c.class_of-class.type_inv)) is refl c.loop-i.invariant.tally;
     }
 

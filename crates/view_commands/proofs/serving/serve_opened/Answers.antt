@@ -1,43 +1,68 @@
-use Rattle.std.proofs.Common.{rules, ◌≡◌, ◌∷◌, []}
+use Rattle.std.proofs.Common.{rules, ◌≡◌, ◌≢◌, ◌∷◌, [], ◌∙◌, inl, inr, sym, subst, Some, Option, List, ℕ}
+use Rattle.std.specs.Prelude.{◌⊎◌, IsTrue}
 use Rattle.std.specs.Arc.{arc_value}
-use Rattle.view_ends.specs.Ends.{Rose, RoseBy}
+use Rattle.sessions.specs.declared.end.Reason as reason
 use Rattle.sessions.specs.declared.end.Reason.TheVariants.{ReadFault, WriteFault}
 use Rattle.version_store.proofs.HistoryLaws.{held_current}
+use Rattle.version_store.specs.Histories as history
+use Rattle.version_store.specs.declared.history.Entry.{Entry}
 use Rattle.view_ends.specs.Desk.{Said}
-use Rattle.view_commands.proofs.Counts.{end_cause, kept_finished}
-use Rattle.view_commands.proofs.OneSession.{one_ran}
+use Rattle.view_ends.specs.Ends.{Rose, RoseBy}
+use Rattle.view_commands.specs.Serve.{KeptSo, RoseWhere, journal_text}
+use Rattle.view_commands.specs.Texts.{KeepsText}
+use Rattle.view_commands.proofs.Runs.{read-so, kept-so, wrote-so, kept_file, limit-told}
+use Rattle.view_commands.proofs.Written.{keeps-earlier}
 use Rattle.view_commands.proofs.serving.serve_opened.Goals as goal
 
-pub returns : goal.returns
-returns g c =
+pub returns-clause-one : goal.returns-clause-one
+returns-clause-one g c =
     let old : Said = g.D.Desk.says c.args.desk.now in
-    let new : Said = g.D.Desk.says c.close_ends-closed.new.desk in
+    let shut : Said = g.D.Desk.says c.shut.new.self in
+    let last : Said = g.D.Desk.says c.keep.new.self in
+    let new : Said = g.D.Desk.says c.write_journal-journal.new.desk in
     let input = c.args.names.input.now in
     let output = c.args.names.output.now in
     let session = c.serve_alone-end.ensures in
-    let closed = c.close_ends-closed.ensures in
-    let taken : RoseBy c.serve_alone-end.result.taken (old.taken input) (new.taken input) = search rules in
-    let read : c.serve_alone-end.result.reason ≡ ReadFault → Rose (old.reads input) (new.reads input) = search rules in
-    let wrote : c.serve_alone-end.result.reason ≡ WriteFault → Rose (old.writes output) (new.writes output) = search rules in
-    let one : c.push.new.self.items ≡ c.serve_alone-end.result ∷ [] = search rules in
-    one_ran g.D.Desk.tells old new c.args.names.journal.now input output (arc_value c.args.scene.now.survey) (g.D.In.Source.left c.args.ends.input) c.serve_alone-end.result record { status = c.status_of-status.result; told = record { history = c.serve_alone-end.new.history; sessions = c.push.new.self; journal = c.close_ends-closed.result.journal } } c.push.new.self.items one closed.taken_others record {
-      start = g.D.Out.Sink.got c.args.ends.output;
-      got = g.D.Out.Sink.got c.serve_alone-end.new.sink;
-      empty = c.requires.fresh.output_empty;
-      served = session.served;
-      legal = session.legal;
-      mine = session.mine;
-      given_back = session.given_back;
-      newest_held = λ callers. held_current callers c.serve_alone-end.new.history.items session.given_back;
-      taken_more = taken;
-      cause = end_cause old new input output c.serve_alone-end.result.reason read wrote;
-      kept = c.close_ends-closed.result.kept;
-      keeping = closed.keeping;
-      output_kept = closed.output_file;
-      output_file = λ calm. closed.output_file (kept_finished old new output c.close_ends-closed.result.kept closed.keeping calm);
-      journal_file = search rules;
-      journal_front = search rules;
-      journal_cause = closed.journal_cause;
-      status_is = c.status_of-status.ensures;
-      files = closed.files;
-    }
+    let end = c.serve_alone-end.result in
+    let kept = c.reason_of-kept.result in
+    let written = c.write_journal-journal.result in
+    let journal = c.write_journal-journal.ensures.only in
+    let apart : output ≢ c.args.names.journal.now = λ same. c.requires.written (sym same) in
+    let got = g.D.Out.Sink.got c.serve_alone-end.new.sink in
+    let keeping : KeptSo old new output got kept =
+    subst (λ (r : reason.Reason). KeptSo old new output got r) (sym c.reason_of-kept.ensures)
+    (kept-so old shut last new output got _ c.keep.result (c.shut.ensures.desk.rest.unkept output) c.keep.ensures.desk (journal.unkept output apart) (journal.files output apart)) in
+    let read : RoseWhere (end.reason ≡ ReadFault) (old.reads input) (new.reads input) =
+    read-so old shut new input _ _ _ end.reason c.requires.input.faultless session.reads c.shut.ensures.desk (search rules) in
+    let wrote : RoseWhere ((end.reason ≡ WriteFault) ⊎ (kept ≡ WriteFault)) (old.writes output) (new.writes output) =
+    subst (λ (r : reason.Reason). RoseWhere ((end.reason ≡ WriteFault) ⊎ (r ≡ WriteFault)) (old.writes output) (new.writes output)) (sym c.reason_of-kept.ensures)
+    (wrote-so old shut last new output got _ _ end.reason c.keep.result c.requires.output.faultless session.writes c.keep.ensures.desk (c.shut.ensures.desk.rest.writes output) (journal.writes output apart)) in
+    let journal_file : KeepsText g.D.Desk.tells old new c.args.names.journal.now (journal_text (history.journal c.serve_alone-end.new.history.items)) written =
+    keeps-earlier g.D.Desk.tells old last new c.args.names.journal.now _ written (search rules) (search rules)
+    (subst (λ (h : List Entry). KeepsText g.D.Desk.tells last new c.args.names.journal.now (journal_text (history.journal h)) written) c.as_slice.ensures c.write_journal-journal.ensures.kept) in
+    let one : c.push.new.self.items ≡ end ∷ [] = search rules in (
+      end,
+      one,
+      record {
+        start = g.D.Out.Sink.got c.args.ends.output;
+        empty = c.requires.output.empty;
+        got = got;
+        there = c.requires.there;
+        served = session.served;
+        legal = session.legal;
+        mine = session.mine;
+        given_back = session.given_back;
+        newest_held = held_current c.serve_alone-end.new.history.items session.given_back;
+        taken = search rules;
+        opened = search rules;
+        read = read;
+        kept = kept;
+        keeping = keeping;
+        wrote = wrote;
+        output_file = kept_file old new output _ kept keeping;
+        journal_file = journal_file;
+        status = c.status_of-status.ensures;
+        limit = limit-told g.D.Desk.tells old new c.args.names.journal.now output (journal_text (history.journal c.serve_alone-end.new.history.items)) got end.reason kept written end.taken _ keeping journal_file c.status_of-status.ensures session.served.processed.limit;
+        files = search rules;
+      },
+    )

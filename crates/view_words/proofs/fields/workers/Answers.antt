@@ -1,5 +1,5 @@
 use Rattle.std.proofs.Common.{ℕ, ◌∙◌, Option, IsSome, arith, sym, ap, subst}
-use Rattle.view_text.specs.ViewWords.{word_at}
+use Rattle.view_base.specs.Fitting.{word_at}
 use Rattle.view_words.specs.CommandLine.{texts, number_within}
 use Rattle.view_words.proofs.Lines.{length-texts, workers_within, number_within-workers}
 use Rattle.view_words.proofs.fields.workers.Goals as goal

@@ -1,6 +1,6 @@
 use Rattle.std.proofs.Common.{◌≡◌, arith, ◌∙◌, [], ◌∷◌, sym, true, false}
 use Rattle.std.specs.Str.{bytes_eq}
-use Rattle.view_text.specs.ViewWords.{word_at}
+use Rattle.view_base.specs.Fitting.{word_at}
 use Rattle.view_words.specs.CommandLine.{texts, IsLine, command}
 use Rattle.view_words.proofs.Lines.{length-texts, least_words-line}
 use Rattle.view_words.proofs.Refusals.{badword-unbegun, badword-begun, row_in-own, row_in-other}

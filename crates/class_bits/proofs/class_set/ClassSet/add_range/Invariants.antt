@@ -1,6 +1,6 @@
 use Rattle.std.proofs.Common.{◌≡◌, ℕ, ◌<◌, ◌&&◌, ◌||◌, leb, ltb}
 use Rattle.view_meaning.specs.Classes.{has}
-use Rattle.class_bits.specs.ClassSet.{IsClassSet}
+use Rattle.class_bits.specs.Kept.{IsClassSet}
 use Rattle.class_bits.proofs.class_set.ClassSet.add_range.Given as goal
 
 abbrev pub invariant-loop-class : goal.invariant-loop-class

@@ -1,6 +1,6 @@
 use Rattle.std.proofs.Common.{◌≡◌, List, ℕ, ◌++◌, ap, ◌∙◌, append_assoc}
 use Rattle.std.specs.Prelude.{codes, decimal}
-use Rattle.las_survey.specs.Fault.{text_of}
+use Rattle.las_survey.specs.FaultText.{text_of}
 use Rattle.las_survey.proofs.fault.SurveyFaultDisplay.fmt.Goals as goal
 
 regrouped : (a b c d : List ℕ) → a ++ b ++ c ++ d ≡ a ++ (b ++ (c ++ d))

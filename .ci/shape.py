@@ -1,0 +1,70 @@
+#!/usr/bin/env python3
+"""Looks at the shape of the sources, and ends with 1 where one of these does not hold:
+
+- no chain of crates is longer than eight, where a crate of definitions alone, the program's `main` and
+  the crate of tests across crates are not counted;
+- no source file has more than 400 lines;
+- no clause of a public function has a line above 200 characters.
+
+    python3 .ci/shape.py          prints what is wrong, and nothing where all holds
+    python3 .ci/shape.py --chain  prints a longest chain
+"""
+
+import re
+import sys
+from pathlib import Path
+
+ROOT = Path(__file__).resolve().parent.parent
+UNCOUNTED = {"view_meaning", "view_main", "acceptance"}
+CHAIN, LINES, CLAUSE = 8, 400, 200
+FUNCTION = re.compile(r"\s*(pub(?:\(\w+\))? )?(?:const )?(?:unsafe )?fn ")
+
+
+def stands_on():
+    found = {}
+    for line in (ROOT / "crates.txt").read_text().splitlines():
+        line = line.split("#")[0].strip()
+        if line:
+            name, below = line.split(":")
+            found[name.split()[0]] = below.split()
+    return found
+
+
+def longest(below, crate, known):
+    if crate not in known:
+        chains = [longest(below, other, known) for other in below[crate] if other in below]
+        known[crate] = max(chains, key=len, default=[]) + ([] if crate in UNCOUNTED else [crate])
+    return known[crate]
+
+
+def long_clauses(text):
+    """The numbers of the lines of public functions' clauses that are too long."""
+    public = False
+    for number, line in enumerate(text.splitlines(), 1):
+        function = FUNCTION.match(line)
+        if function:
+            # A method of a trait or of its impl has no `pub`, and is as public as the trait.
+            public = function.group(1) == "pub " or (function.group(1) is None and line.startswith("    fn"))
+        if public and len(line) > CLAUSE and re.match(r"\s+(requires|ensures)", line):
+            yield number
+
+
+def main():
+    below, known = stands_on(), {}
+    chain = max((longest(below, crate, known) for crate in below), key=len)
+    if sys.argv[1:] == ["--chain"]:
+        print(len(chain), " ".join(chain))
+        return
+    wrong = []
+    if len(chain) > CHAIN:
+        wrong.append(f"a chain of {len(chain)} crates: {' '.join(chain)}")
+    for path in sorted((ROOT / "crates").glob("*/src/**/*.rt")):
+        text, name = path.read_text(), path.relative_to(ROOT)
+        if len(text.splitlines()) > LINES:
+            wrong.append(f"{name} has {len(text.splitlines())} lines")
+        wrong += [f"{name}:{number}: a clause above {CLAUSE} characters" for number in long_clauses(text)]
+    if wrong:
+        sys.exit("\n".join(wrong))
+
+
+main()

@@ -1,0 +1,182 @@
+-- Commands that read a survey and write a text, put together of their steps.
+use Rattle.std.proofs.Common.{◌≡◌, ◌≢◌, ℕ, ◌<◌, ◌≤◌, List, [], Option, Some, None, length, take, refl, sym, ◌∙◌, ap, subst, arith, inl, inr}
+use Rattle.std.specs.Prelude.{Bool, IsTrue, IfSome, ◌⊎◌}
+use Rattle.las_survey.specs.Fault.{fault_of}
+use Rattle.las_survey.specs.declared.fault.SurveyFault.{SurveyFault}
+use Rattle.las_survey.specs.declared.loading.TheConstants.{LIMIT}
+use Rattle.sessions.specs.declared.end.Reason as reason
+use Rattle.sessions.specs.declared.end.Reason.TheVariants as why
+use Rattle.view_ends.specs.Desk.{Said}
+use Rattle.view_ends.specs.Ends.{Rose, RoseBy, AllStay, OthersStay}
+use Rattle.view_meaning.specs.Layout as layout
+use Rattle.view_meaning.specs.Layout.{IsLaid}
+use Rattle.view_commands.specs.Steps.{OnlyWrote}
+use Rattle.view_commands.specs.Texts.{IsRead, OnlyTook, NoSurvey, HoldsPart, KeepsText, Writes, Settles, SettlesFile, MakesText}
+use Rattle.view_commands.specs.declared.status.Status as status
+use Rattle.view_commands.specs.declared.status.Status.TheVariants.{Done, Words, Limit, OpenFault, ReadFault, TooLong, Survey, WriteFault, SessionLimit, Memory, NotYet}
+
+-- a file that is laid out has no fault
+fault-laid : (b : List ℕ) (fault : layout.Fault) → IsLaid b → layout.fault b ≡ Some fault → ⊥
+unfolding IsLaid
+fault-laid b fault laid is = absurd (cc (laid, is))
+
+-- what a name's file was read as, where the desk tells the file
+same_bytes : (told : Option (List ℕ)) (b read : List ℕ) → told ≡ Some b → IfSome told (λ file. file ≡ read) → b ≡ read
+same_bytes told b read is all = subst (λ (told : Option (List ℕ)). IfSome told (λ file. file ≡ read)) is all
+
+told_long : (told : Option (List ℕ)) (b : List ℕ) → told ≡ Some b → IfSome told (λ file. LIMIT < length file) → LIMIT < length b
+told_long told b is long = subst (λ (told : Option (List ℕ)). IfSome told (λ file. LIMIT < length file)) is long
+
+-- one fault is all that a file has
+same_fault : (b : List ℕ) (found other : layout.Fault) → layout.fault b ≡ Some found → layout.fault b ≡ Some other → found ≡ other
+same_fault b found other is also = cc (is, also)
+
+-- no survey: how that settles
+pub no_survey-settles : (tells : Bool) (old new : Said) (name : List ℕ) (calm : Type 0) (status : status.Status) → NoSurvey tells old new name status → SettlesFile tells old new name calm status
+no_survey-settles tells old new name calm (OpenFault at) none = λ tell b is opened unfailed. absurd (opened none.1)
+no_survey-settles tells old new name calm (ReadFault at) none = λ tell b is opened unfailed. absurd (unfailed none.1)
+no_survey-settles tells old new name calm TooLong none = λ tell b is opened unfailed.
+    let long = told_long (old.file name) b is none.1 in
+    record {
+      too_long = λ _. inl refl;
+      not_laid = λ few fault found. absurd (omega (arith, long, few));
+      laid = λ few laid calm. absurd (omega (arith, long, few));
+    }
+no_survey-settles tells old new name calm (Survey told) none = λ tell b is opened unfailed.
+    let same : b ≡ none.0.0 = same_bytes (old.file name) b none.0.0 is none.0.1.all in
+    let sizes : length b ≡ length none.0.0 = ap (λ (l : List ℕ). length l) same in
+    let short = none.0.1.few in
+    let at_fault : layout.fault b ≡ Some (fault_of told) = ap layout.fault same ∙ none.0.2 in
+    record {
+      too_long = λ long. absurd (omega (arith, long, sizes, short));
+      not_laid = λ few fault found. inl (told, refl, same_fault b (fault_of told) fault at_fault found);
+      laid = λ few laid calm. absurd (fault-laid b (fault_of told) laid at_fault);
+    }
+no_survey-settles tells old new name calm Memory none = λ tell b is opened unfailed. record {
+  too_long = λ long. inr refl;
+  not_laid = λ few fault found. inr refl;
+  laid = λ few laid calm. inr refl;
+}
+no_survey-settles tells old new name calm Done none = absurd none
+no_survey-settles tells old new name calm (Words at) none = absurd none
+no_survey-settles tells old new name calm (Limit limit) none = absurd none
+no_survey-settles tells old new name calm (WriteFault at) none = absurd none
+no_survey-settles tells old new name calm (SessionLimit at) none = absurd none
+no_survey-settles tells old new name calm NotYet none = absurd none
+
+-- a survey that was read and is laid out settles by what comes after
+pub read-settles : (tells : Bool) (old new : Said) (name b : List ℕ) (calm : Type 0) (status : status.Status) → IsLaid b → IsRead tells old new name b → (calm → (status ≡ Done) ⊎ (status ≡ Memory)) → SettlesFile tells old new name calm status
+read-settles tells old new name b calm status laid read ends = λ tell c is opened unfailed.
+    let same : c ≡ b = same_bytes (old.file name) c b is read.all in
+    let sizes : length c ≡ length b = ap (λ (l : List ℕ). length l) same in
+    let short = read.few in
+    record {
+      too_long = λ long. absurd (omega (arith, long, sizes, short));
+      not_laid = λ few fault found. absurd (fault-laid b fault laid (ap layout.fault (sym same) ∙ found));
+      laid = λ few fits quiet. ends quiet;
+    }
+
+-- no survey: no file changed
+pub no_survey-files : (tells : Bool) (old new : Said) (name : List ℕ) (status : status.Status) → NoSurvey tells old new name status → AllStay old.file new.file
+no_survey-files tells old new name (OpenFault at) none = none.2.files
+no_survey-files tells old new name (ReadFault at) none = none.2.rest.files
+no_survey-files tells old new name TooLong none = none.2.rest.files
+no_survey-files tells old new name (Survey told) none = none.1.rest.files
+no_survey-files tells old new name Memory none = none.rest.files
+no_survey-files tells old new name Done none = absurd none
+no_survey-files tells old new name (Words at) none = absurd none
+no_survey-files tells old new name (Limit limit) none = absurd none
+no_survey-files tells old new name (WriteFault at) none = absurd none
+no_survey-files tells old new name (SessionLimit at) none = absurd none
+no_survey-files tells old new name NotYet none = absurd none
+
+-- no survey: nothing was taken of another name
+pub no_survey-taken : (tells : Bool) (old new : Said) (name : List ℕ) (status : status.Status) → NoSurvey tells old new name status → OthersStay old.taken new.taken name
+no_survey-taken tells old new name (OpenFault at) none = λ other apart. none.2.taken other
+no_survey-taken tells old new name (ReadFault at) none = none.2.others
+no_survey-taken tells old new name TooLong none = none.2.others
+no_survey-taken tells old new name (Survey told) none = none.1.others
+no_survey-taken tells old new name Memory none = none.others
+no_survey-taken tells old new name Done none = absurd none
+no_survey-taken tells old new name (Words at) none = absurd none
+no_survey-taken tells old new name (Limit limit) none = absurd none
+no_survey-taken tells old new name (WriteFault at) none = absurd none
+no_survey-taken tells old new name (SessionLimit at) none = absurd none
+no_survey-taken tells old new name NotYet none = absurd none
+
+part_earlier : (tells : Bool) (old mid new : Said) (name bytes : List ℕ) → mid.unkept name ≡ old.unkept name → HoldsPart tells mid new name bytes → HoldsPart tells old new name bytes
+part_earlier tells old mid new name bytes unkept part = λ tell calm.
+    part tell (λ rose. calm (subst (λ (n : ℕ). Rose n (new.unkept name)) unkept rose))
+
+-- what was kept, seen from an earlier state
+pub keeps-earlier : (tells : Bool) (old mid new : Said) (name bytes : List ℕ) (reason : reason.Reason) → mid.writes name ≡ old.writes name → mid.unkept name ≡ old.unkept name → KeepsText tells mid new name bytes reason → KeepsText tells old new name bytes reason
+keeps-earlier tells old mid new name bytes why.Finished writes unkept so = (so.0, so.1 ∙ writes)
+keeps-earlier tells old mid new name bytes why.WriteFault writes unkept so = (
+  part_earlier tells old mid new name bytes unkept so.0,
+  subst (λ (n : ℕ). Rose n (new.writes name)) writes so.1,
+)
+keeps-earlier tells old mid new name bytes why.Memory writes unkept so = (part_earlier tells old mid new name bytes unkept so.0, so.1 ∙ writes)
+keeps-earlier tells old mid new name bytes why.ReadFault writes unkept so = absurd so
+keeps-earlier tells old mid new name bytes why.SessionLimit writes unkept so = absurd so
+
+-- a text that was written after a survey was read, seen from before that
+writes-earlier : (tells : Bool) (old mid new : Said) (out bytes : List ℕ) (status : status.Status) → AllStay old.file mid.file → mid.writes out ≡ old.writes out → mid.unkept out ≡ old.unkept out
+    → Writes tells mid new out bytes status → Writes tells old new out bytes status
+writes-earlier tells old mid new out bytes Done files writes unkept so = (so.0, so.1 ∙ writes)
+writes-earlier tells old mid new out bytes (OpenFault at) files writes unkept so = (
+  so.0,
+  λ other. so.1 other ∙ files other,
+  subst (λ (n : ℕ). Rose n (new.writes out)) writes so.2,
+)
+writes-earlier tells old mid new out bytes (WriteFault at) files writes unkept so = (so.0, keeps-earlier tells old mid new out bytes why.WriteFault writes unkept so.1)
+writes-earlier tells old mid new out bytes Memory files writes unkept (inl stay, same) = (inl (λ other. stay other ∙ files other), same ∙ writes)
+writes-earlier tells old mid new out bytes Memory files writes unkept (inr part, same) = (inr (part_earlier tells old mid new out bytes unkept part), same ∙ writes)
+writes-earlier tells old mid new out bytes (Words at) files writes unkept so = absurd so
+writes-earlier tells old mid new out bytes (Limit limit) files writes unkept so = absurd so
+writes-earlier tells old mid new out bytes (ReadFault at) files writes unkept so = absurd so
+writes-earlier tells old mid new out bytes TooLong files writes unkept so = absurd so
+writes-earlier tells old mid new out bytes (Survey told) files writes unkept so = absurd so
+writes-earlier tells old mid new out bytes (SessionLimit at) files writes unkept so = absurd so
+writes-earlier tells old mid new out bytes NotYet files writes unkept so = absurd so
+
+-- a text whose writing met no fault is done, but for want of memory
+writes-calm : (tells : Bool) (old new : Said) (out bytes : List ℕ) (status : status.Status) → Writes tells old new out bytes status → (Rose (old.writes out) (new.writes out) → ⊥) → (status ≡ Done) ⊎ (status ≡ Memory)
+writes-calm tells old new out bytes Done so calm = inl refl
+writes-calm tells old new out bytes (OpenFault at) so calm = absurd (calm so.2)
+writes-calm tells old new out bytes (WriteFault at) so calm = absurd (calm so.1.1)
+writes-calm tells old new out bytes Memory so calm = inr refl
+writes-calm tells old new out bytes (Words at) so calm = absurd so
+writes-calm tells old new out bytes (Limit limit) so calm = absurd so
+writes-calm tells old new out bytes (ReadFault at) so calm = absurd so
+writes-calm tells old new out bytes TooLong so calm = absurd so
+writes-calm tells old new out bytes (Survey told) so calm = absurd so
+writes-calm tells old new out bytes (SessionLimit at) so calm = absurd so
+writes-calm tells old new out bytes NotYet so calm = absurd so
+
+-- no survey came, and nothing was written
+pub text-none : (tells : Bool) (old new : Said) (survey out : List ℕ) (text : List ℕ → List ℕ) (status : status.Status) → NoSurvey tells old new survey status → MakesText tells old new survey out text status
+text-none tells old new survey out text status none = record {
+  outcome = inl none;
+  others = λ other apart. no_survey-files tells old new survey status none other;
+  settled = no_survey-settles tells old new survey (Rose (old.writes out) (new.writes out) → ⊥) status none;
+}
+
+-- a survey was read, and then its text written
+pub text-written : (tells : Bool) (old mid new : Said) (survey out : List ℕ) (text : List ℕ → List ℕ) (b bytes : List ℕ) (status : status.Status) → bytes ≡ text b → IsLaid b → IsRead tells old mid survey b → OnlyTook old mid survey
+    → Writes tells mid new out bytes status → OnlyWrote mid new out → MakesText tells old new survey out text status
+text-written tells old mid new survey out text b bytes status is laid read took written only =
+    let reads : IsRead tells old new survey b = record {
+      few = read.few;
+      all = read.all;
+      there = read.there;
+      counted = subst (λ (n : ℕ). RoseBy (length b) (old.taken survey) n) (sym (only.rest.taken survey)) read.counted;
+      opened = only.rest.unopened survey ∙ read.opened;
+      unfailed = only.rest.reads survey ∙ read.unfailed;
+    } in
+    let writes : Writes tells old new out (text b) status =
+    subst (λ (l : List ℕ). Writes tells old new out l status) is (writes-earlier tells old mid new out bytes status took.rest.files (took.rest.writes out) (took.rest.unkept out) written) in
+    record {
+      outcome = inr (b, laid, reads, writes);
+      others = λ other apart. only.files other apart ∙ took.rest.files other;
+      settled = read-settles tells old new survey b (Rose (old.writes out) (new.writes out) → ⊥) status laid reads (writes-calm tells old new out (text b) status writes);
+    }

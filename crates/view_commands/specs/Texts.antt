@@ -1,0 +1,108 @@
+-- What a command makes of a survey that it reads from a desk, and writes there as a text.
+use Rattle.std.specs.Prelude.{◌≡◌, ℕ, ◌+◌, ◌-◌, ◌<◌, ◌≤◌, ◌⊎◌, Bool, IsTrue, List, [], length, take, Some, IsSome, IfSome, Result, Ok, Err}
+use Rattle.las_survey.specs.Fault.{fault_of}
+use Rattle.las_survey.specs.declared.fault.SurveyFault.{SurveyFault}
+use Rattle.las_survey.specs.declared.loading.TheConstants.{LIMIT}
+use Rattle.sessions.specs.declared.end.Reason as reason
+use Rattle.sessions.specs.declared.end.Reason.TheVariants as why
+use Rattle.view_base.specs.Fitting.{word_at}
+use Rattle.view_ends.specs.Desk.{Said, Untouched}
+use Rattle.view_ends.specs.Ends.{Rose, RoseBy, AllStay, OthersStay}
+use Rattle.view_meaning.specs.Classes.{classes}
+use Rattle.view_meaning.specs.Layout as layout
+use Rattle.view_meaning.specs.Layout.{IsLaid}
+use Rattle.view_meaning.specs.Picture.{View, picture}
+use Rattle.view_text.specs.ViewWords.{camera_numbers, is_built, view_by}
+use Rattle.view_text.specs.declared.fault.TextFault as text
+use Rattle.view_text.specs.declared.fault.TextFault.TheVariants as fault
+use Rattle.view_words.specs.CommandLine.{view_words}
+use Rattle.view_commands.specs.declared.places.TheConstants.{SURVEY, OUT}
+use Rattle.view_commands.specs.declared.status.Status as status
+use Rattle.view_commands.specs.declared.status.Status.TheVariants.{Done, Limit, OpenFault, ReadFault, TooLong, Survey, WriteFault, Memory, NotYet}
+
+-- a name was opened and read to the end of its bytes, which are few enough for a survey, and nothing failed
+pub record IsRead (tells : Bool) (old new : Said) (name b : List ℕ) : Type 0 where
+  pub few : length b ≤ LIMIT
+  -- these are all bytes of its file, where the desk tells them, and then it is there
+  pub all : IfSome (old.file name) (λ file. file ≡ b)
+  pub there : IsTrue tells → IsSome (old.file name)
+  -- all were counted as taken, and neither its opening nor its reading failed
+  pub counted : RoseBy (length b) (old.taken name) (new.taken name)
+  pub opened : new.unopened name ≡ old.unopened name
+  pub unfailed : new.reads name ≡ old.reads name
+
+-- nothing changed but how much was taken of a name
+pub record OnlyTook (old new : Said) (name : List ℕ) : Type 0 where
+  pub others : OthersStay old.taken new.taken name
+  pub rest : Untouched (record old { taken = new.taken }) new
+
+-- why a name gave no survey, and that nothing changed but what this counts
+abbrev pub NoSurvey : Bool → Said → Said → List ℕ → status.Status → Type 0
+NoSurvey tells old new name (OpenFault at) = (at ≡ SURVEY) × Rose (old.unopened name) (new.unopened name) × Untouched (record old { unopened = new.unopened }) new
+NoSurvey tells old new name (ReadFault at) = (at ≡ SURVEY) × Rose (old.reads name) (new.reads name) × OnlyTook (record old { reads = new.reads }) new name
+NoSurvey tells old new name TooLong = RoseBy (LIMIT + 1) (old.taken name) (new.taken name) × IfSome (old.file name) (λ b. LIMIT < length b) × OnlyTook old new name
+NoSurvey tells old new name (Survey found) = ((b : List ℕ) × IsRead tells old new name b × (layout.fault b ≡ Some (fault_of found))) × OnlyTook old new name
+NoSurvey tells old new name Memory = OnlyTook old new name
+NoSurvey tells old new name _ = ⊥
+
+-- where the desk tells its files and the keeping of a name was not refused, its file is a front of these bytes
+-- that lacks the last of them, if there is one
+abbrev pub HoldsPart : Bool → Said → Said → List ℕ → List ℕ → Type 0
+HoldsPart tells old new name bytes = IsTrue tells → (Rose (old.unkept name) (new.unkept name) → ⊥)
+    → (k : ℕ) × (k ≤ length bytes - 1) × (new.file name ≡ Some (take k bytes))
+
+-- what came of bytes that were given to an opened name and kept: its file, and its count of failed writes
+abbrev pub KeepsText : Bool → Said → Said → List ℕ → List ℕ → reason.Reason → Type 0
+KeepsText tells old new name bytes why.Finished = (IsTrue tells → new.file name ≡ Some bytes) × (new.writes name ≡ old.writes name)
+KeepsText tells old new name bytes why.WriteFault = HoldsPart tells old new name bytes × Rose (old.writes name) (new.writes name)
+KeepsText tells old new name bytes why.Memory = HoldsPart tells old new name bytes × (new.writes name ≡ old.writes name)
+KeepsText tells old new name bytes _ = ⊥
+
+-- how the writing of a whole text ended, and what its file and its count of failed writes are then
+abbrev pub Writes : Bool → Said → Said → List ℕ → List ℕ → status.Status → Type 0
+Writes tells old new out bytes Done = KeepsText tells old new out bytes why.Finished
+Writes tells old new out bytes (OpenFault at) = (at ≡ OUT) × AllStay old.file new.file × Rose (old.writes out) (new.writes out)
+Writes tells old new out bytes (WriteFault at) = (at ≡ OUT) × KeepsText tells old new out bytes why.WriteFault
+Writes tells old new out bytes Memory = (AllStay old.file new.file ⊎ HoldsPart tells old new out bytes) × (new.writes out ≡ old.writes out)
+Writes tells old new out bytes _ = ⊥
+
+-- how a command over a survey of these bytes ends where that was opened and read without a fault, and what else
+-- it needs has none; want of memory is always free
+pub record Settles (b : List ℕ) (calm : Type 0) (ended : status.Status) : Type 0 where
+  -- too many bytes end with `TooLong`
+  pub too_long : LIMIT < length b → (ended ≡ TooLong) ⊎ (ended ≡ Memory)
+  -- few enough bytes with a fault end with the first of it
+  pub not_laid : length b ≤ LIMIT → (fault : layout.Fault) → layout.fault b ≡ Some fault
+      → ((found : SurveyFault) × (ended ≡ Survey found) × (fault_of found ≡ fault)) ⊎ (ended ≡ Memory)
+  -- and those that are laid out with `Done`
+  pub laid : length b ≤ LIMIT → IsLaid b → calm → (ended ≡ Done) ⊎ (ended ≡ Memory)
+
+-- the same of the file of a name, where the desk tells its files
+abbrev pub SettlesFile : Bool → Said → Said → List ℕ → Type 0 → status.Status → Type 0
+SettlesFile tells old new name calm ended = IsTrue tells → (b : List ℕ) → old.file name ≡ Some b
+    → (Rose (old.unopened name) (new.unopened name) → ⊥) → (Rose (old.reads name) (new.reads name) → ⊥) → Settles b calm ended
+
+-- what a command makes of the survey of one name and writes into the file of another: no survey came, or the
+-- text of its bytes was written; and no other file changed
+pub record MakesText (tells : Bool) (old new : Said) (survey out : List ℕ) (text : List ℕ → List ℕ) (ended : status.Status) : Type 0 where
+  -- no survey came, by its cause; or one that is laid out was read to its end, and its text was written, or why not
+  pub outcome : NoSurvey tells old new survey ended ⊎ ((b : List ℕ) × IsLaid b × IsRead tells old new survey b × Writes tells old new out (text b) ended)
+  -- no other file changed
+  pub others : OthersStay old.file new.file out
+  -- and the status where nothing outside failed
+  pub settled : SettlesFile tells old new survey (Rose (old.writes out) (new.writes out) → ⊥) ended
+
+-- the picture of a survey as the file itself has its classes
+abbrev pub drawn : List ℕ → View → List ℕ
+drawn b view = picture b (classes b []) view
+
+-- how a `draw` is answered whose words ask for this view, or for one that can't be drawn
+abbrev pub DrawsView : Bool → Said → Said → List (List ℕ) → Result View text.TextFault → status.Status → Type 0
+DrawsView tells old new ws (Ok view) ended = MakesText tells old new (word_at ws 1) (word_at ws 2) (λ b. drawn b view) ended
+DrawsView tells old new ws (Err fault.NotYet) ended = (ended ≡ NotYet) × Untouched old new
+DrawsView tells old new ws (Err (fault.Limit limit)) ended = (ended ≡ Limit limit) × Untouched old new
+DrawsView tells old new ws (Err (fault.Line _)) ended = ⊥
+
+-- the view that the words of a `draw` ask for, or why it can't be drawn
+abbrev pub view_in : List (List ℕ) → Result View text.TextFault
+view_in ws = let view = view_words ws in view_by (is_built view) (camera_numbers view)
