@@ -12,8 +12,8 @@ abbrev pub is_of : ℕ → Pinned → Bool
 is_of v at = at.version == v
 
 -- how many pins of a version are out
-unfoldable pub count_of : List Pinned → ℕ → ℕ
-count_of pinned v = sum_by (λ (at : Pinned). if is_of v at then at.pins else 0) pinned
+unfoldable pub pins_of : List Pinned → ℕ → ℕ
+pins_of pinned v = sum_by (λ (at : Pinned). if is_of v at then at.pins else 0) pinned
 
 -- each version that is kept has a pin
 unfoldable pub EachHasPin : List Pinned → Type 0

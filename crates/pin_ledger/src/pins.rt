@@ -1,6 +1,6 @@
 ghost use Rattle.std.specs.Prelude.{◌≡◌, ◌≢◌, ℕ, ◌+◌, ◌-◌, ◌^◌, ◌<◌, ◌≤◌, ◌⊎◌, ◌↔◌, ◌==◌, IsTrue, OnOk};
 ghost use Rattle.std.specs.List.{position};
-ghost use Rattle.pin_ledger.specs.Ledger.{is_of, count_of};
+ghost use Rattle.pin_ledger.specs.Ledger.{is_of, pins_of};
 
 use std::alloc::Global;
 use std::marker::Model;
@@ -13,8 +13,8 @@ pub(crate) struct Pinned {
     pub(crate) pins: u64,
 }
 
-/// How many pins of each version are out. Contracts see the count of every version, and `spare`: how
-/// many more versions get their first pin without memory.
+/// How many pins of each version are out. Contracts see the versions that have pins, of which
+/// `pins_of` is the count, and `spare`: how many more versions get their first pin without memory.
 #[derive(Drop)]
 pub struct Pins {
     kept: Vec<Pinned>,
@@ -34,7 +34,7 @@ impl Model for Pins {
 impl Pins {
     /// The ledger of no pins, which takes no memory.
     pub fn new(alloc: Global) -> Pins
-        ensures { (v : ℕ) → count_of result.pinned v ≡ 0 }
+        ensures { (v : ℕ) → pins_of result.pinned v ≡ 0 }
     {
         Pins {
             kept: Vec::new(alloc),
@@ -53,10 +53,10 @@ impl Pins {
 
     /// Counts one more pin of a version. There is room, or the version has a pin; it takes no memory.
     pub fn add(&mut self, version: Version)
-        requires room { (1 ≤ self.old.spare) ⊎ (0 < count_of self.old.pinned version) }
-        requires few { count_of self.old.pinned version < 2 ^ 64 - 1 }
-        ensures added { count_of self.new.pinned version ≡ count_of self.old.pinned version + 1 }
-        ensures others { (v : ℕ) → v ≢ version → count_of self.new.pinned v ≡ count_of self.old.pinned v }
+        requires room { (1 ≤ self.old.spare) ⊎ (0 < pins_of self.old.pinned version) }
+        requires few { pins_of self.old.pinned version < 2 ^ 64 - 1 }
+        ensures added { pins_of self.new.pinned version ≡ pins_of self.old.pinned version + 1 }
+        ensures others { (v : ℕ) → v ≢ version → pins_of self.new.pinned v ≡ pins_of self.old.pinned v }
         ensures spare { self.old.spare ≤ self.new.spare + 1 }
     {
         match place_of(self.kept.as_slice(), version) {
@@ -70,9 +70,9 @@ impl Pins {
 
     /// Counts one pin of a version less, which has one. It takes no memory.
     pub fn take(&mut self, version: Version)
-        requires { 0 < count_of self.old.pinned version }
-        ensures taken { count_of self.new.pinned version + 1 ≡ count_of self.old.pinned version }
-        ensures others { (v : ℕ) → v ≢ version → count_of self.new.pinned v ≡ count_of self.old.pinned v }
+        requires { 0 < pins_of self.old.pinned version }
+        ensures taken { pins_of self.new.pinned version + 1 ≡ pins_of self.old.pinned version }
+        ensures others { (v : ℕ) → v ≢ version → pins_of self.new.pinned v ≡ pins_of self.old.pinned v }
         ensures spare { self.old.spare ≤ self.new.spare }
     {
         match place_of(self.kept.as_slice(), version) {
@@ -89,7 +89,7 @@ impl Pins {
 
     /// Whether the version has a pin that is out.
     pub fn is_pinned(&self, version: Version) -> bool
-        ensures { IsTrue result ↔ (0 < count_of self.now.pinned version) }
+        ensures { IsTrue result ↔ (0 < pins_of self.now.pinned version) }
     {
         place_of(self.kept.as_slice(), version).is_some()
     }

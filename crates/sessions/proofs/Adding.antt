@@ -15,7 +15,7 @@ use Rattle.sessions.specs.declared.talk.Talk.{Talk}
 use Rattle.sessions.specs.Lines.{Item}
 use Rattle.version_store.specs.Histories.{journal}
 use Rattle.sessions.specs.Replies.{version, head, with_length, reply}
-use Rattle.sessions.specs.Talk.{IsSound, Stays, Adds, by_one, entries_of, last_mark, mark_of, last_reply}
+use Rattle.sessions.specs.Talk.{IsSound, SameTalk, Adds, by_one, entries_of, last_mark, mark_of, last_reply}
 use Rattle.version_store.proofs.HistoryLaws.{length-journal}
 use Rattle.sessions.proofs.Tales.{published, journal_more}
 use Rattle.sessions.proofs.Replying.{last_mark-push}
@@ -29,14 +29,14 @@ sound_nothing b talk none newest classes fits = record {
   fits = fits;
 }
 
-pub sound_stays : (b : List ℕ) (old new : Talk) → IsSound b old → Stays old new → IsSound b new
+pub sound_stays : (b : List ℕ) (old new : Talk) → IsSound b old → SameTalk old new → IsSound b new
 sound_stays b old new sound stays = record {
   newest_is = rw (stays.newest, stays.history) sound.newest_is;
   classes_are = rw (stays.classes, stays.history) sound.classes_are;
   fits = rw stays.classes sound.fits;
 }
 
-pub adds_stays : (b : List ℕ) (old mid new : Talk) (item : Item) → Stays old mid → Adds b mid new item → Adds b old new item
+pub adds_stays : (b : List ℕ) (old mid new : Talk) (item : Item) → SameTalk old mid → Adds b mid new item → Adds b old new item
 adds_stays b old mid new item stays added = record {
   history = added.history ∙ rw (stays.history, stays.newest) refl;
   marks = added.marks ∙ rw (stays.marks, stays.newest) refl;

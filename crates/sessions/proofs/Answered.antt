@@ -22,7 +22,7 @@ use Rattle.sessions.specs.declared.talk.Talk.{Talk}
 use Rattle.sessions.specs.Lines.{Item, LINE, without_cr, items_of}
 use Rattle.version_store.specs.Histories.{journal}
 use Rattle.sessions.specs.Replies.{head}
-use Rattle.sessions.specs.Talk.{IsSound, Stays, Adds, Answered, AnsweredAll, by_one, last_reply}
+use Rattle.sessions.specs.Talk.{IsSound, SameTalk, Adds, Answered, AnsweredAll, by_one, last_reply}
 use Rattle.sessions.proofs.Adding.{sound_stays, adds_stays, adds_view, adds_save, adds_edit, last_reply-view, last_reply-save, last_reply-edit}
 
 -- an item was answered as its reply was given
@@ -41,7 +41,7 @@ answered_by b old new item before after text (Err fault) added is given part = r
 pub sound-records : (b : List ℕ) (talk : Talk) → IsSound b talk → length talk.classes ≡ record_count b
 sound-records b talk sound = ap length sound.classes_are ∙ length-classes b (journal talk.history.items)
 
-pub kept-records : (b at : List ℕ) (old mid : Talk) → at ≡ b → IsSound b old → Stays old mid → length mid.classes ≡ record_count at
+pub kept-records : (b at : List ℕ) (old mid : Talk) → at ≡ b → IsSound b old → SameTalk old mid → length mid.classes ≡ record_count at
 kept-records b at old mid is sound stays = sound-records b mid (sound_stays b old mid sound stays) ∙ ap record_count (sym is)
 
 -- the length that the head line of a view tells
@@ -50,7 +50,7 @@ picture-size w h width height size shown wide high told is =
     told ∙ ap (λ (n : ℕ). length (ppm_header n h) + 3 * (n * h)) wide ∙ ap (λ (n : ℕ). length (ppm_header width n) + 3 * (width * n)) high ∙ sym is
 
 pub answered_view : (b : List ℕ) (old mid new : Talk) (view : PictureView) (size : ℕ) (start text : List ℕ) (before after : Option (List ℕ)) (result : Result (Unit {0}) EndFault)
-    → IsSound b old → Stays old mid → new.history.items ≡ mid.history.items ++ by_one Pin ∷ by_one (Unpin mid.newest) ∷ []
+    → IsSound b old → SameTalk old mid → new.history.items ≡ mid.history.items ++ by_one Pin ∷ by_one (Unpin mid.newest) ∷ []
     → new.marks.items ≡ mid.marks.items ++ mid.newest ∷ [] → new.newest ≡ mid.newest → new.classes ≡ mid.classes
     → start ≡ head (codes "PICTURE") mid.newest size → size ≡ length (picture b mid.classes view) → text ≡ start ++ picture b mid.classes view
     → OnOk result (Gains before text after) → OnErr result (GainsPart before text after) → Answered b old new (Ok (View view)) before after (is_ok result)
@@ -75,7 +75,7 @@ edited_fits b at cs made is fits keeps =
     subst (λ (l : List ℕ). EachFits (format_of l) made) is (keeps (subst (λ (l : List ℕ). EachFits (format_of l) cs) (sym is) fits))
 
 pub answered_edit : (b at : List ℕ) (old mid new : Talk) (edit : meaning.Edit) (made : List ℕ) (count : ℕ) (text : List ℕ) (before after : Option (List ℕ)) (result : Result (Unit {0}) EndFault)
-    → at ≡ b → IsSound b old → Stays old mid → new.history.items ≡ mid.history.items ++ by_one (Publish edit) ∷ []
+    → at ≡ b → IsSound b old → SameTalk old mid → new.history.items ≡ mid.history.items ++ by_one (Publish edit) ∷ []
     → new.marks.items ≡ mid.marks.items ++ (mid.newest + 1) ∷ [] → new.newest ≡ mid.newest + 1 → new.classes ≡ made
     → ((edits : List meaning.Edit) → mid.classes ≡ meaning.classes at edits → made ≡ meaning.classes at (edits ++ edit ∷ []))
     → (EachFits (format_of at) mid.classes → EachFits (format_of at) made) → count ≡ changed mid.classes made → text ≡ head (codes "EDITED") new.newest count
@@ -100,7 +100,7 @@ save-parts b at file mid new size start is all whole added newest classes told b
 
 -- a save whose head line was given whole
 pub answered_save : (b at file : List ℕ) (old mid new : Talk) (size : ℕ) (start : List ℕ) (before between after : Option (List ℕ)) (result : Result (Unit {0}) EndFault)
-    → at ≡ b → file ≡ at → points_end at ≤ length at → IsSound b old → Stays old mid → new.history.items ≡ mid.history.items ++ by_one Pin ∷ by_one (Unpin mid.newest) ∷ []
+    → at ≡ b → file ≡ at → points_end at ≤ length at → IsSound b old → SameTalk old mid → new.history.items ≡ mid.history.items ++ by_one Pin ∷ by_one (Unpin mid.newest) ∷ []
     → new.marks.items ≡ mid.marks.items ++ mid.newest ∷ [] → new.newest ≡ mid.newest → new.classes ≡ mid.classes
     → size ≡ length file → start ≡ head (codes "FILE") mid.newest size → Gains before start between
     → OnOk result (Gains between (saved at new.classes) after) → OnErr result (GainsPart between (saved at new.classes) after) → Answered b old new (Ok Save) before after (is_ok result)
@@ -115,7 +115,7 @@ answered_save b at file old mid new size start before between after (Err fault) 
 
 -- a save whose head line was not given whole
 pub answered_save-head : (Q : EndFault → Type 0) (b at file : List ℕ) (old mid new : Talk) (size : ℕ) (start : List ℕ) (before after : Option (List ℕ)) (result : Result (Unit {0}) EndFault)
-    → at ≡ b → file ≡ at → points_end at ≤ length at → IsSound b old → Stays old mid → new.history.items ≡ mid.history.items ++ by_one Pin ∷ by_one (Unpin mid.newest) ∷ []
+    → at ≡ b → file ≡ at → points_end at ≤ length at → IsSound b old → SameTalk old mid → new.history.items ≡ mid.history.items ++ by_one Pin ∷ by_one (Unpin mid.newest) ∷ []
     → new.marks.items ≡ mid.marks.items ++ mid.newest ∷ [] → new.newest ≡ mid.newest → new.classes ≡ mid.classes
     → size ≡ length file → start ≡ head (codes "FILE") mid.newest size → GainsPart before start after → IsErrAnd result Q → Answered b old new (Ok Save) before after (is_ok result)
 answered_save-head Q b at file old mid new size start before after (Ok done) is all whole sound stays history marks newest classes told begins part failed = absurd failed

@@ -17,7 +17,7 @@ use Rattle.sessions.specs.Replies.{version, head, with_length, reply, replies}
 use Rattle.sessions.specs.Session.{GotMost, Served}
 use Rattle.sessions.specs.Listening.{Listened}
 use Rattle.sessions.specs.declared.end.Reason.{Reason}
-use Rattle.sessions.specs.Talk.{IsSound, Stays, Adds, IsTale, IsAnswering, GaveUp, AnsweredAll, entries_of, last_mark, mark_of, last_reply}
+use Rattle.sessions.specs.Talk.{IsSound, SameTalk, Adds, IsTale, IsAnswering, GaveUp, AnsweredAll, entries_of, last_mark, mark_of, last_reply}
 use Rattle.sessions.proofs.Processing.{processed_one}
 use Rattle.sessions.proofs.Tales.{AreWithin, published, journal_more, tale_nothing, tale_length, tale_more}
 
@@ -176,7 +176,7 @@ answering_most b items talk start now answering =
 
 -- nothing was done
 pub answering_stays : (b : List ℕ) (items : List Item) (old new : Talk) (start before after : Option (List ℕ))
-    → IsAnswering b items old start before → Stays old new → after ≡ before → IsAnswering b items new start after
+    → IsAnswering b items old start before → SameTalk old new → after ≡ before → IsAnswering b items new start after
 answering_stays b items old new start before after answering stays same = record {
   sound = record {
     newest_is = rw (stays.newest, stays.history) answering.sound.newest_is;
@@ -188,7 +188,7 @@ answering_stays b items old new start before after answering stays same = record
 }
 
 pub gave_up_none : (b : List ℕ) (items : List Item) (old new : Talk) (start before after : Option (List ℕ))
-    → IsAnswering b items old start before → Stays old new → after ≡ before
+    → IsAnswering b items old start before → SameTalk old new → after ≡ before
     → IsTale items new.marks.items new.history.items × GotMost b (journal new.history.items) items new.marks.items start after
 gave_up_none b items old new start before after answering stays same =
     let still = answering_stays b items old new start before after answering stays same in
@@ -211,7 +211,7 @@ gave_up-part b all items item old new start before after answering added gains f
     gave_up b all (items ++ item ∷ []) new start after front.0 front.1 most.0 most.1
 
 pub gave_up-none : (b : List ℕ) (all items : List Item) (old new : Talk) (start before after : Option (List ℕ))
-    → IsAnswering b items old start before → Stays old new → after ≡ before → (k : ℕ) × (take k all ≡ items) → GaveUp b all new start after
+    → IsAnswering b items old start before → SameTalk old new → after ≡ before → (k : ℕ) × (take k all ≡ items) → GaveUp b all new start after
 gave_up-none b all items old new start before after answering stays same front =
     let most = gave_up_none b items old new start before after answering stays same in
     gave_up b all items new start after front.0 front.1 most.0 most.1

@@ -21,7 +21,7 @@ pub record IsSound (b : List ℕ) (talk : Talk) : Type 0 where
   pub fits : EachFits (format_of b) talk.classes
 
 -- nothing but the room of the lists is other than before
-pub record Stays (old new : Talk) : Type 0 where
+pub record SameTalk (old new : Talk) : Type 0 where
   pub classes : new.classes ≡ old.classes
   pub newest : new.newest ≡ old.newest
   pub history : new.history.items ≡ old.history.items
@@ -67,11 +67,11 @@ last_reply b talk item = reply b (journal talk.history.items) item (last_mark ta
 -- an item was processed and its reply given whole, or the output got some front of it, or nothing was done
 pub record Answered (b : List ℕ) (old new : Talk) (item : Item) (before after : Option (List ℕ)) (done : Bool) : Type 0 where
   pub whole : IsTrue done → Adds b old new item × Gains before (last_reply b new item) after
-  pub part : IsFalse done → (Stays old new × (after ≡ before)) ⊎ (Adds b old new item × GainsPart before (last_reply b new item) after)
+  pub part : IsFalse done → (SameTalk old new × (after ≡ before)) ⊎ (Adds b old new item × GainsPart before (last_reply b new item) after)
 
 -- the same of a line, which may be no item at all
 abbrev pub AnsweredAll : List ℕ → Talk → Talk → List Item → Option (List ℕ) → Option (List ℕ) → Bool → Type 0
-AnsweredAll b old new [] before after done = IsTrue done × Stays old new × (after ≡ before)
+AnsweredAll b old new [] before after done = IsTrue done × SameTalk old new × (after ≡ before)
 AnsweredAll b old new (item ∷ others) before after done = Answered b old new item before after done
 
 -- the history of one session alone that processed these items under these marks

@@ -1,5 +1,5 @@
 ghost use Rattle.std.specs.Prelude.{◌≡◌, ◌+◌, ◌≤◌, ◌<◌, length, ◌∷◌, ◌++◌, [], OnOk};
-ghost use Rattle.sessions.specs.Talk.{HasRoom, Stays, by_one, last_mark};
+ghost use Rattle.sessions.specs.Talk.{HasRoom, SameTalk, by_one, last_mark};
 ghost use Rattle.version_store.specs.declared.history.What.TheVariants.{Publish, Pin, Unpin};
 
 use crate::end::Marks;
@@ -24,7 +24,7 @@ pub(crate) struct Talk {
 impl Talk {
     /// Makes room for one more mark and its entries.
     pub(crate) fn make_room(&mut self) -> Result<(), OutOfMemory>
-        ensures same { Stays self.old self.new }
+        ensures same { SameTalk self.old self.new }
         ensures room { OnOk result (HasRoom self.new) }
     {
         self.marks.reserve(1)?;

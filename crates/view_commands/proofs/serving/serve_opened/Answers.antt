@@ -3,7 +3,7 @@ use Rattle.std.specs.Prelude.{◌⊎◌, IsTrue}
 use Rattle.std.specs.Arc.{arc_value}
 use Rattle.sessions.specs.declared.end.Reason as reason
 use Rattle.sessions.specs.declared.end.Reason.TheVariants.{ReadFault, WriteFault}
-use Rattle.version_store.proofs.HistoryLaws.{held_current}
+use Rattle.version_store.proofs.HeldLaws.{held_current}
 use Rattle.version_store.specs.Histories as history
 use Rattle.version_store.specs.declared.history.Entry.{Entry}
 use Rattle.view_ends.specs.Desk.{Said}

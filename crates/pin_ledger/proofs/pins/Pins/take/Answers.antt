@@ -1,7 +1,7 @@
 use Rattle.std.proofs.Common.{◌≡◌, ◌-◌, Some, None, sym, ap, ◌∙◌, arith}
 use Rattle.std.specs.List.{position}
-use Rattle.pin_ledger.specs.Ledger.{is_of, count_of}
-use Rattle.pin_ledger.proofs.Counting.{count_of-none, kept_positive, found, each-set, each-swap_remove, counted_set, counted_swap_remove, one_left, more_left}
+use Rattle.pin_ledger.specs.Ledger.{is_of, pins_of}
+use Rattle.pin_ledger.proofs.Counting.{pins_of-none, kept_positive, found, each-set, each-swap_remove, counted_set, counted_swap_remove, one_left, more_left}
 use Rattle.pin_ledger.proofs.pins.Pins.take.Goals as goal
 
 pub invariant_of-self : goal.invariant_of-self
@@ -22,7 +22,7 @@ invariant_of-self-else-index-eq1 c =
 pub unreachable-requires : goal.unreachable-requires
 unreachable-requires c =
     let place : position (is_of c.args.version) c.self.inside.kept.items ≡ None = ap (position (is_of c.args.version)) (sym c.as_slice.ensures.value) ∙ sym c.place_of.ensures ∙ c.in-None.is in
-    absurd (omega (arith, c.requires, count_of-none c.self.inside.kept.items c.args.version place, ap (λ l. count_of l.pinned c.args.version) c.self.view_is))
+    absurd (omega (arith, c.requires, pins_of-none c.self.inside.kept.items c.args.version place, ap (λ l. pins_of l.pinned c.args.version) c.self.view_is))
 
 pub returns-then-index-eq1-clause-taken : goal.returns-then-index-eq1-clause-taken
 returns-then-index-eq1-clause-taken c =
