@@ -61,13 +61,15 @@ def look(top, seen):
     below = [(top, None)]
     while below:
         pid, part = below.pop()
+        start, ticks = stats.get(pid, (None, 0))
+        # What has ended and waits for its parent tells no words any more.
+        known = seen.get((pid, start), (None, 0))[0]
         try:
-            part = part_of(pid) or part
+            part = part_of(pid) or known or part
         except OSError:
-            pass
-        if pid in stats:
-            start, ticks = stats[pid]
-            seen[pid, start] = (part or (WITHOUT, "other"), ticks)
+            part = known or part
+        if start is not None:
+            seen[pid, start] = (part, ticks)
         below += [(child, part) for child in parents.get(pid, [])]
 
 
@@ -80,7 +82,8 @@ def edits_of(crate):
 def table(seen, total, wall):
     """The lines of the table, in processor minutes."""
     minutes = {}
-    for (crate, part), ticks in seen.values():
+    for named, ticks in seen.values():
+        crate, part = named or (WITHOUT, "other")
         row = minutes.setdefault(crate, dict.fromkeys(PARTS, 0.0))
         row[part] += ticks / TICKS / 60
     sums = {part: sum(row[part] for row in minutes.values()) for part in PARTS}

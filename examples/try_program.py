@@ -39,7 +39,7 @@ LONG = b"\xa5" * 100000
 
 # The largest survey, in bytes, and the memory that its loading may want.
 LARGEST = 1 << 30
-MEMORY = 6 << 30
+MEMORY = 3 << 30
 
 
 def survey(records):

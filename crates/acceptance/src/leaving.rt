@@ -165,31 +165,35 @@ fn a_faulty_header_leaves_every_file(rt: HostRuntime) -> Result<(), Fail> {
     refuses_headers(&rt, rt.alloc(), plain(rt.alloc(), &ONE)?.as_slice())
 }
 
-/// Surveys that are cut: within the header, within the points, and within the extended record.
-fn refuses_cut(rt: &impl Abort, alloc: Global, survey: &[u8], all: &[u8]) -> Result<(), Fail> {
-    let have_374 = SurveyFault::Header(HeaderFault::TooShort { have: 374 });
+/// Runs each command over the front of these bytes, which has this fault.
+fn refuses_front(
+    rt: &impl Abort,
+    alloc: Global,
+    bytes: &[u8],
+    length: usize,
+    fault: SurveyFault,
+) -> Result<(), Fail> {
+    let front = bytes.get(..length).unwrap_or(bytes);
+    refuses(rt, alloc, front, fault)
+}
+
+/// A survey of one point that is cut: within the header, and within the points.
+fn refuses_cut(rt: &impl Abort, alloc: Global, survey: &[u8]) -> Result<(), Fail> {
+    let header = SurveyFault::Header(HeaderFault::TooShort { have: 374 });
+    refuses_front(rt, alloc, survey, 374, header)?;
     let points = SurveyFault::Points {
         need: 395,
         have: 394,
     };
-    let extended = SurveyFault::Evlr { k: 0, at: 557 };
-    let cut = survey.get(..374).unwrap_or(&[]);
-    refuses(rt, alloc, cut, have_374)?;
-    let cut = survey.get(..394).unwrap_or(&[]);
-    refuses(rt, alloc, cut, points)?;
-    let cut = all.get(..620).unwrap_or(&[]);
-    refuses(rt, alloc, cut, extended)
+    refuses_front(rt, alloc, survey, 394, points)
 }
 
 #[test]
 fn a_survey_that_is_cut_leaves_every_file(rt: HostRuntime) -> Result<(), Fail> {
-    let survey = plain(rt.alloc(), &ONE)?;
-    refuses_cut(
-        &rt,
-        rt.alloc(),
-        survey.as_slice(),
-        parts(rt.alloc())?.as_slice(),
-    )
+    refuses_cut(&rt, rt.alloc(), plain(rt.alloc(), &ONE)?.as_slice())?;
+    let extended = SurveyFault::Evlr { k: 0, at: 557 };
+    let survey = parts(rt.alloc())?;
+    refuses_front(&rt, rt.alloc(), survey.as_slice(), 620, extended)
 }
 
 #[test]

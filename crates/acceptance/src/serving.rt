@@ -1,4 +1,4 @@
-use crate::desks::{Shelf, command, ends, fill, holds};
+use crate::desks::{File, Shelf, command, fill, holds, leaves};
 use crate::drawing::{CLASS_2, CLASS_6};
 use crate::parts::parts;
 use crate::plain::{ONE, Record, plain};
@@ -266,27 +266,20 @@ fn a_journal_makes_the_same_edits_again(rt: HostRuntime) -> Result<(), Fail> {
     replies(&rt, rt.alloc(), &ONE, again, &wanted, journal)
 }
 
-/// Serves a script of canonical edits, which has to be the journal.
-fn journals(rt: &impl Abort, alloc: Global, script: &[u8]) -> Result<(), Fail> {
-    let mut desk = StillDesk::empty(alloc);
-    let survey = plain(alloc, &ONE)?;
-    fill(
-        alloc,
-        &mut desk,
-        &[("a.las", survey.as_slice()), ("i", script)],
-    )?;
-    ends(rt, alloc, &mut desk, SERVE, Status::Done)?;
-    holds(rt, &desk, &[("j", script)], SERVE);
-    Ok(())
+/// Serves a script of canonical edits over a survey, which has to be the journal.
+fn journals(rt: &impl Abort, alloc: Global, survey: &[u8], script: &[u8]) -> Result<(), Fail> {
+    let before: [File; 2] = [("a.las", survey), ("i", script)];
+    let after: [File; 1] = [("j", script)];
+    leaves::<StillDesk>(rt, alloc, SERVE, &before, Status::Done, &after)
 }
 
 #[test]
 fn a_long_journal_is_written_whole(rt: HostRuntime) -> Result<(), Fail> {
     // 72,000 bytes, which pass 2^16.
-    let line = b"edit 0 0 0 9 9 9 0-31 6
-";
-    let script = joined(rt.alloc(), &[line.as_slice(); 3000])?;
-    journals(&rt, rt.alloc(), &script)
+    let line = b"edit 0 0 0 9 9 9 0-31 6\n".as_slice();
+    let script = joined(rt.alloc(), &[line; 3000])?;
+    let survey = plain(rt.alloc(), &ONE)?;
+    journals(&rt, rt.alloc(), survey.as_slice(), &script)
 }
 
 /// The file with all parts, its three records in the classes 6, 6 and 9, after these replies' heads.
