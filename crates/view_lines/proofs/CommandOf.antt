@@ -6,7 +6,7 @@ use Rattle.view_base.specs.Text.{words}
 use Rattle.view_text.specs.ViewWords.{view_of}
 use Rattle.edit_ops.specs.EditLine.{edit_of}
 use Rattle.view_lines.specs.declared.refusal.Refusal.TheVariants.{Line}
-use Rattle.view_lines.specs.Command.{viewed, edited, saved, command_of, command_of_words}
+use Rattle.view_lines.specs.Command.{viewed, edited, save_of, command_of, command_of_words}
 
 -- whether a word is a text, by an answer that compared it with that text
 pub bytes_eq-answered : (word literal text : List ℕ) (answer truth : Bool) → answer ≡ bytes_eq word literal → literal ≡ text → answer ≡ truth → bytes_eq word text ≡ truth
@@ -24,7 +24,7 @@ pub command_of-edit : (line word : List ℕ) (others : List (List ℕ)) (format 
 unfolding command_of command_of_words
 command_of-edit line word others format is view edit = rw is (rw (view, edit) refl)
 
-pub command_of-save : (line word : List ℕ) (others : List (List ℕ)) (format : ℕ) → words line ≡ word ∷ others → bytes_eq word (codes "view") ≡ false → bytes_eq word (codes "edit") ≡ false → bytes_eq word (codes "save") ≡ true → command_of line format ≡ saved others
+pub command_of-save : (line word : List ℕ) (others : List (List ℕ)) (format : ℕ) → words line ≡ word ∷ others → bytes_eq word (codes "view") ≡ false → bytes_eq word (codes "edit") ≡ false → bytes_eq word (codes "save") ≡ true → command_of line format ≡ save_of others
 unfolding command_of command_of_words
 command_of-save line word others format is view edit save = rw is (rw (view, edit, save) refl)
 

@@ -29,9 +29,9 @@ edited (Err (unfit.Line at)) = Err Line
 edited (Err (unfit.ClassRange class)) = Err ClassRange
 
 -- the command of a line that begins with `save` and goes on with these words: it has no others
-abbrev pub saved : List (List ℕ) → Result command.Command refusal.Refusal
-saved [] = Ok Save
-saved (word ∷ others) = Err Line
+abbrev pub save_of : List (List ℕ) → Result command.Command refusal.Refusal
+save_of [] = Ok Save
+save_of (word ∷ others) = Err Line
 
 -- the command of a line by its words, for a point format, or why it is refused
 unfoldable pub command_of_words : List (List ℕ) → ℕ → Result command.Command refusal.Refusal
@@ -39,7 +39,7 @@ command_of_words [] format = Err Line
 command_of_words (word ∷ others) format =
     if bytes_eq word (codes "view") then viewed (view_of others)
     else if bytes_eq word (codes "edit") then edited (edit_of (word ∷ others) format)
-    else if bytes_eq word (codes "save") then saved others
+    else if bytes_eq word (codes "save") then save_of others
     else Err Line
 
 -- the command of a line for a point format, or why it is refused

@@ -2,7 +2,7 @@ ghost use Rattle.std.specs.Prelude.{◌≡◌, ◌≤◌, IfOk};
 ghost use Rattle.view_base.specs.Text.{words};
 ghost use Rattle.view_text.specs.ViewWords.{view_of};
 ghost use Rattle.edit_ops.specs.EditLine.{edit_of};
-ghost use Rattle.view_lines.specs.Command.{viewed, edited, saved, command_of, FitsFormat, IsByClass};
+ghost use Rattle.view_lines.specs.Command.{viewed, edited, save_of, command_of, FitsFormat, IsByClass};
 
 use crate::command::Command;
 use crate::refusal::Refusal;
@@ -37,7 +37,7 @@ fn edit_command(line: &[u8], format: u8) -> Result<Command, Refusal>
 
 /// The command of a line that goes on with this text after the word `save`.
 fn save_command(rest: &[u8]) -> Result<Command, Refusal>
-    ensures { result ≡ saved (words rest.now) }
+    ensures { result ≡ save_of (words rest.now) }
 {
     match next_word(rest, 0) {
         Some(_) => Err(Refusal::Line),
