@@ -88,10 +88,10 @@ fn each_standard_stream_opens_once(rt: HostRuntime) -> Result<(), Fail> {
     let mut desk = HostDesk::new(rt, rt.alloc());
     let out = desk.open_out("-")?;
     let input = desk.open_in("-")?;
-    unread(&rt, &mut desk, "-");
-    unwritten(&rt, &mut desk, "-");
     desk.shut("-", input);
     desk.keep("-", out)?;
+    unread(&rt, &mut desk, "-");
+    unwritten(&rt, &mut desk, "-");
     Ok(())
 }
 
@@ -197,15 +197,23 @@ fn a_full_device_fails_and_opens_again(rt: HostRuntime) -> Result<(), Fail> {
     Ok(())
 }
 
-/// While a file is read, and once it was, no name of it is written.
+/// While a file is read, no name of it is written.
 fn read_stays(rt: &impl Abort, host: HostRuntime, name: &str, others: &[&str]) -> Result<(), Fail> {
     let mut desk = HostDesk::new(host, host.alloc());
     let input = desk.open_in(name)?;
     for other in others {
         unwritten(rt, &mut desk, other);
     }
+    drop(input);
+    holds(rt, host, name, b"bytes")
+}
+
+/// Once a file was read and shut, another name of it is still not written.
+fn shut_stays(rt: &impl Abort, host: HostRuntime, name: &str, other: &str) -> Result<(), Fail> {
+    let mut desk = HostDesk::new(host, host.alloc());
+    let input = desk.open_in(name)?;
     desk.shut(name, input);
-    unwritten(rt, &mut desk, name);
+    unwritten(rt, &mut desk, other);
     holds(rt, host, name, b"bytes")
 }
 
@@ -237,6 +245,7 @@ fn no_name_of_an_opened_file_destroys_it(rt: HostRuntime) -> Result<(), Fail> {
     fs::hard_link(&rt, name.as_str(), hard.as_str())?;
     let others = [spelled.as_str(), soft.as_str(), hard.as_str()];
     read_stays(&rt, rt, name.as_str(), &others)?;
+    shut_stays(&rt, rt, name.as_str(), spelled.as_str())?;
     written_stays(&rt, rt, name.as_str(), &others)?;
     for path in [name.as_str(), soft.as_str(), hard.as_str()] {
         fs::remove_file(&rt, path)?;
