@@ -1,5 +1,6 @@
 pub mod Counts
 pub mod Written
+pub mod Drawn
 pub mod Rows
 pub mod Lines
 pub mod JournalText
