@@ -50,6 +50,8 @@ where
 }
 
 impl<R: Files + Input + Print + Copy> HostDesk<R> {
+    ghost use Rattle.view_ends.specs.Opened.{WritesApart};
+
     /// Opens standard input, once.
     fn standard_input(&mut self) -> Option<HostSource<R::File, R::Reader>>
         ensures ledger { self.new.ledger ≡ self.old.ledger }
@@ -66,6 +68,7 @@ impl<R: Files + Input + Print + Copy> HostDesk<R> {
     fn standard_output(&mut self) -> Option<HostSink<R::File, R>>
         ensures ledger { self.new.ledger ≡ self.old.ledger }
         ensures fresh { IfSome result (λ out. out.faults ≡ 0) }
+        ensures apart { IfSome result (λ out. WritesApart self.old.opened self.new.opened out.file) }
     {
         if self.output_opened {
             return None;
@@ -101,19 +104,21 @@ impl<R: Files + Input + Print + Copy> HostDesk<R> {
         requires { vec_len self.old.opened.uses + 1 ≤ vec_capacity self.old.opened.uses }
         ensures ledger { self.new.ledger ≡ self.old.ledger }
         ensures fresh { IfSome result (λ out. out.faults ≡ 0) }
+        ensures apart { IfSome result (λ out. WritesApart self.old.opened self.new.opened out.file) }
     {
         if name == STANDARD {
             return self.standard_output();
         }
         let file = open_uncut(&self.rt, name).ok()?;
-        let identity = Identity::of(&file.metadata().ok()?);
-        if let Some(identity) = identity {
-            if self.opened.has(identity) {
-                return None;
-            }
-            self.opened.note(identity, true);
+        let about = file.metadata().ok()?;
+        let Some(identity) = Identity::of(&about) else {
+            return Some(HostSink::new(Target::File(file), None));
+        };
+        if self.opened.has(identity) {
+            return None;
         }
-        Some(HostSink::new(Target::File(file), identity))
+        self.opened.note(identity, true);
+        Some(HostSink::new(Target::File(file), Some(identity)))
     }
 }
 

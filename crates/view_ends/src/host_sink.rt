@@ -48,7 +48,8 @@ pub struct HostSink<F, P> {
 impl<F: Write + OpenFile, P: Print> HostSink<F, P> {
     /// An output that got nothing yet, and which regular file it is.
     pub(crate) fn new(target: Target<F, P>, file: Option<Identity>) -> HostSink<F, P>
-        ensures { result.faults ≡ 0 }
+        ensures file { result.file ≡ file }
+        ensures faults { result.faults ≡ 0 }
     {
         HostSink {
             target,

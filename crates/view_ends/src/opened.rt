@@ -1,4 +1,4 @@
-ghost use Rattle.std.specs.Prelude.{◌≡◌, ◌↔◌, ◌+◌, ◌≤◌, ◌++◌, ◌∷◌, [], Any, IsTrue, OnOk, vec_capacity, vec_len};
+ghost use Rattle.std.specs.Prelude.{◌≡◌, ◌↔◌, ◌+◌, ◌<◌, ◌≤◌, ◌++◌, ◌∷◌, [], IfSome, IsTrue, OnOk, vec_capacity, vec_len};
 
 use std::alloc::Global;
 use std::fs::Metadata;
@@ -41,6 +41,8 @@ pub(crate) struct Opened {
 }
 
 impl Opened {
+    ghost use Rattle.view_ends.specs.Opened.{IsWritten, StaysNoted, WasOpened};
+
     /// No file was opened.
     pub(crate) fn new(alloc: Global) -> Opened
         ensures { result.uses.items ≡ [] }
@@ -61,14 +63,14 @@ impl Opened {
 
     /// Whether this file was opened.
     pub(crate) fn has(&self, file: Identity) -> bool
-        ensures { IsTrue result ↔ Any (λ noted. noted.file ≡ file) self.now.uses.items }
+        ensures { IsTrue result ↔ WasOpened self.now file }
     {
         self.uses.iter().any(|noted| noted.file == file)
     }
 
     /// Whether this file is being written.
     pub(crate) fn is_written(&self, file: Identity) -> bool
-        ensures { IsTrue result ↔ Any (λ noted. (noted.file ≡ file) × IsTrue noted.writing) self.now.uses.items }
+        ensures { IsTrue result ↔ IsWritten self.now file }
     {
         self.uses
             .iter()
@@ -78,7 +80,10 @@ impl Opened {
     /// Notes a file that was opened, for which there is room.
     pub(crate) fn note(&mut self, file: Identity, writing: bool)
         requires { vec_len self.old.uses + 1 ≤ vec_capacity self.old.uses }
-        ensures { self.new.uses.items ≡ self.old.uses.items ++ record { file = file; writing = writing } ∷ [] }
+        ensures added { self.new.uses.items ≡ self.old.uses.items ++ record { file = file; writing = writing } ∷ [] }
+        ensures opened { WasOpened self.new file }
+        ensures written { IsTrue writing → IsWritten self.new file }
+        ensures noted { StaysNoted self.old self.new }
     {
         let _ = self.uses.push(Use { file, writing });
     }
@@ -87,10 +92,17 @@ impl Opened {
     pub(crate) fn close(&mut self, file: Identity)
         ensures { vec_len self.new.uses ≡ vec_len self.old.uses }
     {
-        for noted in &mut self.uses {
-            if noted.file == file {
-                noted.writing = false;
-            }
+        if let Some(i) = self.index_of(file) {
+            self.uses[i].writing = false;
         }
+    }
+
+    /// The index of the first note on a file that is being written.
+    fn index_of(&self, file: Identity) -> Option<usize>
+        ensures { IfSome result (λ i. i < vec_len self.now.uses) }
+    {
+        self.uses
+            .iter()
+            .position(|noted| noted.file == file && noted.writing)
     }
 }
