@@ -1,5 +1,5 @@
 -- Counts that rose or stayed, of one name and of all.
-use Rattle.std.proofs.Common.{◌≡◌, ◌≢◌, ℕ, ◌+◌, ◌<◌, ◌≤◌, List, refl, sym, ◌∙◌, ap, subst, arith, inl, inr}
+use Rattle.std.proofs.Common.{◌≡◌, ℕ, ◌<◌, ◌≤◌, List, refl, sym, subst, arith, inl, inr}
 use Rattle.std.proofs.lemmas.Bool.Decides.{nat_tests, eqb_tells}
 use Rattle.view_ends.specs.Desk.{Said, Untouched}
 use Rattle.view_ends.specs.Ends.{Rose, AllStay, OthersStay}

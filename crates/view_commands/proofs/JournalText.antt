@@ -1,5 +1,5 @@
 -- The text of a journal, line by line.
-use Rattle.std.proofs.Common.{◌≡◌, ℕ, List, [], ◌∷◌, ◌++◌, refl, sym, ap, ◌∙◌, append_assoc, append-nil}
+use Rattle.std.proofs.Common.{◌≡◌, ℕ, List, [], ◌∷◌, ◌++◌, sym, ap, ◌∙◌, append_assoc, append-nil}
 use Rattle.edit_ops.specs.EditLine.{canonical}
 use Rattle.view_meaning.specs.Classes as meaning
 use Rattle.view_commands.specs.Serve.{journal_text}

@@ -1,11 +1,11 @@
 -- A `serve` with one session, put together of its steps.
-use Rattle.std.proofs.Common.{◌≡◌, ◌≢◌, ℕ, ◌≤◌, List, [], ◌∷◌, Option, Bool, length, refl, sym, ◌∙◌, subst, arith, inl, inr}
-use Rattle.std.specs.Prelude.{IsTrue, ◌⊎◌}
+use Rattle.std.proofs.Common.{◌≡◌, ◌≢◌, ℕ, ◌≤◌, List, [], ◌∷◌, Option, Bool, length, refl, sym, ◌∙◌, subst, inl, inr}
+use Rattle.std.specs.Prelude.{◌⊎◌}
 use Rattle.sessions.specs.declared.end.SessionEnd.{SessionEnd}
-use Rattle.view_ends.specs.Desk.{Said, Untouched}
-use Rattle.view_ends.specs.Ends.{Rose, RoseBy, AllStay, OthersStay}
+use Rattle.view_ends.specs.Desk.{Said}
+use Rattle.view_ends.specs.Ends.{RoseBy}
 use Rattle.view_meaning.specs.Layout.{IsLaid}
-use Rattle.view_commands.specs.Texts.{IsRead, OnlyTook, NoSurvey}
+use Rattle.view_commands.specs.Texts.{IsReadWhole, OnlyTook, NoSurvey}
 use Rattle.view_commands.specs.Serve.{IsNothing, NotOpened, RunsSession, IsCalm, Goes, ServesOne}
 use Rattle.view_commands.specs.Steps.{OnlyInput, OpensOutputs}
 use Rattle.view_commands.specs.declared.status.Status as status
@@ -28,7 +28,7 @@ serves-none tells old new survey journal input output status_is ended apart is n
     }
 
 -- what was read before further inputs were opened and shut
-read-before : (tells : Bool) (old mid new : Said) (survey input b : List ℕ) → survey ≢ input → IsRead tells old mid survey b → OnlyInput mid new input → IsRead tells old new survey b
+read-before : (tells : Bool) (old mid new : Said) (survey input b : List ℕ) → survey ≢ input → IsReadWhole tells old mid survey b → OnlyInput mid new input → IsReadWhole tells old new survey b
 read-before tells old mid new survey input b apart read only = record {
   few = read.few;
   all = read.all;
@@ -56,7 +56,7 @@ not_opened-calm tells old new journal input output NotYet none calm = absurd non
 
 -- a survey was read, and then not all was opened
 pub serves-unopened : (tells : Bool) (old mid new : Said) (survey journal input output b : List ℕ) (is : status.Status) (ended : told.Ended) → survey ≢ input → ended.status ≡ is → IsNothing ended.told
-    → IsLaid b → IsRead tells old mid survey b → OnlyTook old mid survey → NotOpened tells mid new journal input output is → OnlyInput mid new input → new.taken input ≤ mid.taken input
+    → IsLaid b → IsReadWhole tells old mid survey b → OnlyTook old mid survey → NotOpened tells mid new journal input output is → OnlyInput mid new input → new.taken input ≤ mid.taken input
     → ServesOne tells old new survey journal input output ended
 serves-unopened tells old mid new survey journal input output b status_is ended apart is nothing laid read took none only untaken =
     let reads = read-before tells old mid new survey input b apart read only in
@@ -71,7 +71,7 @@ serves-unopened tells old mid new survey journal input output b status_is ended 
 
 -- a survey was read, then all was opened, and then the session ran
 pub serves-session : (tells : Bool) (old mid last new : Said) (survey journal input output b : List ℕ) (left : Option (List ℕ)) (ended : told.Ended) (end : SessionEnd) → survey ≢ input → ended.told.sessions.items ≡ end ∷ []
-    → IsLaid b → IsRead tells old mid survey b → OnlyTook old mid survey → left ≡ mid.file input → OpensOutputs mid last journal output → RunsSession tells last new journal input output b left ended end → OnlyInput last new input
+    → IsLaid b → IsReadWhole tells old mid survey b → OnlyTook old mid survey → left ≡ mid.file input → OpensOutputs mid last journal output → RunsSession tells last new journal input output b left ended end → OnlyInput last new input
     → ServesOne tells old new survey journal input output ended
 serves-session tells old mid last new survey journal input output b left ended end apart one laid read took left_is opens runs only =
     let same_input : left ≡ old.file input = left_is ∙ took.rest.files input in

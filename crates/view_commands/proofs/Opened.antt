@@ -1,6 +1,6 @@
 -- What a refused opening leaves, once the input is shut.
-use Rattle.std.proofs.Common.{◌≡◌, ◌≢◌, ℕ, ◌≤◌, List, refl, sym, ◌∙◌, subst, inl, inr}
-use Rattle.std.specs.Prelude.{Bool, IsTrue, ◌⊎◌}
+use Rattle.std.proofs.Common.{ℕ, List, refl, sym, ◌∙◌, subst, inl, inr}
+use Rattle.std.specs.Prelude.{Bool, ◌⊎◌}
 use Rattle.view_ends.specs.Desk.{Said, Untouched}
 use Rattle.view_ends.specs.Ends.{Rose, AllStay}
 use Rattle.view_commands.specs.Serve.{NotOpened, Empties}

@@ -1,8 +1,7 @@
 -- Commands that read a survey and write a text, put together of their steps.
-use Rattle.std.proofs.Common.{◌≡◌, ◌≢◌, ℕ, ◌<◌, ◌≤◌, List, [], Option, Some, None, length, take, refl, sym, ◌∙◌, ap, subst, arith, inl, inr}
-use Rattle.std.specs.Prelude.{Bool, IsTrue, IfSome, ◌⊎◌}
+use Rattle.std.proofs.Common.{◌≡◌, ℕ, ◌<◌, List, Option, Some, length, refl, sym, ◌∙◌, ap, subst, arith, inl, inr}
+use Rattle.std.specs.Prelude.{Bool, IfSome, ◌⊎◌}
 use Rattle.las_survey.specs.Fault.{fault_of}
-use Rattle.las_survey.specs.declared.fault.SurveyFault.{SurveyFault}
 use Rattle.las_survey.specs.declared.loading.TheConstants.{LIMIT}
 use Rattle.sessions.specs.declared.end.Reason as reason
 use Rattle.sessions.specs.declared.end.Reason.TheVariants as why
@@ -11,7 +10,7 @@ use Rattle.view_ends.specs.Ends.{Rose, RoseBy, AllStay, OthersStay}
 use Rattle.view_meaning.specs.Layout as layout
 use Rattle.view_meaning.specs.Layout.{IsLaid}
 use Rattle.view_commands.specs.Steps.{OnlyWrote}
-use Rattle.view_commands.specs.Texts.{IsRead, OnlyTook, NoSurvey, HoldsPart, KeepsText, Writes, Settles, SettlesFile, MakesText}
+use Rattle.view_commands.specs.Texts.{IsReadWhole, OnlyTook, NoSurvey, HoldsPart, KeepsText, Writes, SettlesFile, MakesText}
 use Rattle.view_commands.specs.declared.status.Status as status
 use Rattle.view_commands.specs.declared.status.Status.TheVariants.{Done, Words, Limit, OpenFault, ReadFault, TooLong, Survey, WriteFault, SessionLimit, Memory, NotYet}
 
@@ -65,7 +64,7 @@ no_survey-settles tells old new name calm (SessionLimit at) none = absurd none
 no_survey-settles tells old new name calm NotYet none = absurd none
 
 -- a survey that was read and is laid out settles by what comes after
-pub read-settles : (tells : Bool) (old new : Said) (name b : List ℕ) (calm : Type 0) (status : status.Status) → IsLaid b → IsRead tells old new name b → (calm → (status ≡ Done) ⊎ (status ≡ Memory)) → SettlesFile tells old new name calm status
+pub read-settles : (tells : Bool) (old new : Said) (name b : List ℕ) (calm : Type 0) (status : status.Status) → IsLaid b → IsReadWhole tells old new name b → (calm → (status ≡ Done) ⊎ (status ≡ Memory)) → SettlesFile tells old new name calm status
 read-settles tells old new name b calm status laid read ends = λ tell c is opened unfailed.
     let same : c ≡ b = same_bytes (old.file name) c b is read.all in
     let sizes : length c ≡ length b = ap (λ (l : List ℕ). length l) same in
@@ -162,10 +161,10 @@ text-none tells old new survey out text status none = record {
 }
 
 -- a survey was read, and then its text written
-pub text-written : (tells : Bool) (old mid new : Said) (survey out : List ℕ) (text : List ℕ → List ℕ) (b bytes : List ℕ) (status : status.Status) → bytes ≡ text b → IsLaid b → IsRead tells old mid survey b → OnlyTook old mid survey
+pub text-written : (tells : Bool) (old mid new : Said) (survey out : List ℕ) (text : List ℕ → List ℕ) (b bytes : List ℕ) (status : status.Status) → bytes ≡ text b → IsLaid b → IsReadWhole tells old mid survey b → OnlyTook old mid survey
     → Writes tells mid new out bytes status → OnlyWrote mid new out → MakesText tells old new survey out text status
 text-written tells old mid new survey out text b bytes status is laid read took written only =
-    let reads : IsRead tells old new survey b = record {
+    let reads : IsReadWhole tells old new survey b = record {
       few = read.few;
       all = read.all;
       there = read.there;

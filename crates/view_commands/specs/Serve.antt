@@ -17,7 +17,7 @@ use Rattle.view_commands.specs.declared.status.Status as status
 use Rattle.view_commands.specs.declared.status.Status.TheVariants.{Done, OpenFault, ReadFault, WriteFault, SessionLimit, Memory}
 use Rattle.view_commands.specs.declared.told.Ended.{Ended}
 use Rattle.view_commands.specs.declared.told.Told.{Told}
-use Rattle.view_commands.specs.Texts.{IsRead, NoSurvey, KeepsText, SettlesFile}
+use Rattle.view_commands.specs.Texts.{IsReadWhole, NoSurvey, KeepsText, SettlesFile}
 
 -- the canonical line and LF of each of these edits, in order
 unfoldable pub journal_text : List meaning.Edit → List ℕ
@@ -130,9 +130,9 @@ pub record IsCalm (old new : Said) (journal input output : List ℕ) : Type 0 wh
 abbrev pub Goes : Bool → Said → Said → List ℕ → List ℕ → List ℕ → List ℕ → Ended → List SessionEnd → Type 0
 Goes tells old new survey journal input output ended [] = IsNothing ended.told × (new.taken input ≤ old.taken input)
     × (NoSurvey tells old new survey ended.status
-    ⊎ ((b : List ℕ) × IsLaid b × IsRead tells old new survey b × NotOpened tells old new journal input output ended.status))
+    ⊎ ((b : List ℕ) × IsLaid b × IsReadWhole tells old new survey b × NotOpened tells old new journal input output ended.status))
 Goes tells old new survey journal input output ended (end ∷ []) =
-    (b : List ℕ) × IsLaid b × IsRead tells old new survey b × RunsSession tells old new journal input output b (old.file input) ended end
+    (b : List ℕ) × IsLaid b × IsReadWhole tells old new survey b × RunsSession tells old new journal input output b (old.file input) ended end
 Goes tells old new survey journal input output ended _ = ⊥
 
 -- a `serve` with one pair: how it went, and how it ends where nothing outside failed

@@ -1,5 +1,5 @@
 -- What the steps of the commands hand to one another.
-use Rattle.std.specs.Prelude.{◌≡◌, ◌≤◌, ℕ, Bool, IsTrue, List, [], ◌∷◌, Option, Some}
+use Rattle.std.specs.Prelude.{◌≡◌, ℕ, Bool, IsTrue, List, [], ◌∷◌, Option, Some}
 use Rattle.sessions.specs.declared.end.SessionEnd.{SessionEnd}
 use Rattle.view_ends.specs.Desk.{Said, Untouched}
 use Rattle.view_ends.specs.Ends.{OthersStay}

@@ -21,7 +21,7 @@ use Rattle.view_commands.specs.declared.status.Status as status
 use Rattle.view_commands.specs.declared.status.Status.TheVariants.{Done, Limit, OpenFault, ReadFault, TooLong, Survey, WriteFault, Memory, NotYet}
 
 -- a name was opened and read to the end of its bytes, which are few enough for a survey, and nothing failed
-pub record IsRead (tells : Bool) (old new : Said) (name b : List ℕ) : Type 0 where
+pub record IsReadWhole (tells : Bool) (old new : Said) (name b : List ℕ) : Type 0 where
   pub few : length b ≤ LIMIT
   -- these are all bytes of its file, where the desk tells them, and then it is there
   pub all : IfSome (old.file name) (λ file. file ≡ b)
@@ -41,7 +41,7 @@ abbrev pub NoSurvey : Bool → Said → Said → List ℕ → status.Status → 
 NoSurvey tells old new name (OpenFault at) = (at ≡ SURVEY) × Rose (old.unopened name) (new.unopened name) × Untouched (record old { unopened = new.unopened }) new
 NoSurvey tells old new name (ReadFault at) = (at ≡ SURVEY) × Rose (old.reads name) (new.reads name) × OnlyTook (record old { reads = new.reads }) new name
 NoSurvey tells old new name TooLong = RoseBy (LIMIT + 1) (old.taken name) (new.taken name) × IfSome (old.file name) (λ b. LIMIT < length b) × OnlyTook old new name
-NoSurvey tells old new name (Survey found) = ((b : List ℕ) × IsRead tells old new name b × (layout.fault b ≡ Some (fault_of found))) × OnlyTook old new name
+NoSurvey tells old new name (Survey found) = ((b : List ℕ) × IsReadWhole tells old new name b × (layout.fault b ≡ Some (fault_of found))) × OnlyTook old new name
 NoSurvey tells old new name Memory = OnlyTook old new name
 NoSurvey tells old new name _ = ⊥
 
@@ -86,7 +86,7 @@ SettlesFile tells old new name calm ended = IsTrue tells → (b : List ℕ) → 
 -- text of its bytes was written; and no other file changed
 pub record MakesText (tells : Bool) (old new : Said) (survey out : List ℕ) (text : List ℕ → List ℕ) (ended : status.Status) : Type 0 where
   -- no survey came, by its cause; or one that is laid out was read to its end, and its text was written, or why not
-  pub outcome : NoSurvey tells old new survey ended ⊎ ((b : List ℕ) × IsLaid b × IsRead tells old new survey b × Writes tells old new out (text b) ended)
+  pub outcome : NoSurvey tells old new survey ended ⊎ ((b : List ℕ) × IsLaid b × IsReadWhole tells old new survey b × Writes tells old new out (text b) ended)
   -- no other file changed
   pub others : OthersStay old.file new.file out
   -- and the status where nothing outside failed

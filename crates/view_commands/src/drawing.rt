@@ -1,4 +1,4 @@
-ghost use Rattle.std.specs.Prelude.{◌≡◌, [], ◌≤◌, length, IfOk};
+ghost use Rattle.std.specs.Prelude.{◌≡◌, ◌≤◌, length, IfOk};
 ghost use Rattle.view_commands.specs.Calls.{AnswersDraw};
 ghost use Rattle.view_commands.specs.Texts.{DrawsView, MakesText, drawn, view_in};
 ghost use Rattle.view_meaning.specs.Picture.{by_class};

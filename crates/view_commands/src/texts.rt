@@ -1,10 +1,9 @@
 ghost use Rattle.std.specs.Prelude.{◌≡◌, IfErr, IfOk};
 ghost use Rattle.sessions.specs.Listening as listening;
 ghost use Rattle.view_ends.specs.Desk.{IsKnown};
-ghost use Rattle.view_ends.specs.Ends.{OthersStay};
 ghost use Rattle.view_meaning.specs.Layout.{IsLaid};
 ghost use Rattle.view_commands.specs.Steps.{IsUnwritten, OnlyWrote};
-ghost use Rattle.view_commands.specs.Texts.{IsRead, KeepsText, NoSurvey, OnlyTook, Writes};
+ghost use Rattle.view_commands.specs.Texts.{IsReadWhole, KeepsText, NoSurvey, OnlyTook, Writes};
 
 use crate::places::{OUT, SURVEY};
 use crate::status::{Status, status_at};
@@ -20,7 +19,7 @@ pub(crate) fn read_survey<D: Desk>(
     name: &str,
 ) -> Result<Survey, Status>
     ensures laid { IfOk result IsLaid }
-    ensures read { IfOk result (λ b. IsRead D.tells (D.says desk.old) (D.says desk.new) name.now b) }
+    ensures read { IfOk result (λ b. IsReadWhole D.tells (D.says desk.old) (D.says desk.new) name.now b) }
     ensures took { IfOk result (λ b. OnlyTook (D.says desk.old) (D.says desk.new) name.now) }
     ensures refused { IfErr result (λ status. NoSurvey D.tells (D.says desk.old) (D.says desk.new) name.now status) }
 {

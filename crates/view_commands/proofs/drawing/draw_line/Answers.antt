@@ -1,4 +1,3 @@
-use Rattle.std.proofs.Common.{rules}
 use Rattle.view_words.specs.CommandLine.{texts}
 use Rattle.view_commands.proofs.Drawn.{draws-view}
 use Rattle.view_commands.proofs.drawing.draw_line.Goals as goal

@@ -1,7 +1,6 @@
-use Rattle.std.proofs.Common.{rules, ◌≡◌, ◌∙◌}
+use Rattle.std.proofs.Common.{rules, ◌∙◌}
 use Rattle.view_ends.specs.Desk.{Said, Untouched}
 use Rattle.view_ends.specs.Ends.{AllStay}
-use Rattle.view_commands.specs.Steps.{OnlyInput}
 use Rattle.view_commands.proofs.Counts.{all_stay}
 use Rattle.view_commands.proofs.Opened.{not_opened-between}
 use Rattle.view_commands.proofs.opening.open_ends.Goals as goal

@@ -1,4 +1,4 @@
-use Rattle.std.proofs.Common.{rules, ◌≡◌, List, ℕ, sym, subst}
+use Rattle.std.proofs.Common.{rules, ◌≡◌, List, ℕ, subst}
 use Rattle.std.specs.Arc.{arc_value}
 use Rattle.view_ends.specs.Desk.{Said}
 use Rattle.view_commands.specs.Serve.{RunsSession}

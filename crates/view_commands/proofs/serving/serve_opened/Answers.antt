@@ -1,13 +1,11 @@
-use Rattle.std.proofs.Common.{rules, ◌≡◌, ◌≢◌, ◌∷◌, [], ◌∙◌, inl, inr, sym, subst, Some, Option, List, ℕ}
-use Rattle.std.specs.Prelude.{◌⊎◌, IsTrue}
-use Rattle.std.specs.Arc.{arc_value}
+use Rattle.std.proofs.Common.{rules, ◌≡◌, ◌≢◌, ◌∷◌, [], sym, subst, List}
+use Rattle.std.specs.Prelude.{◌⊎◌}
 use Rattle.sessions.specs.declared.end.Reason as reason
 use Rattle.sessions.specs.declared.end.Reason.TheVariants.{ReadFault, WriteFault}
 use Rattle.version_store.proofs.HeldLaws.{held_current}
 use Rattle.version_store.specs.Histories as history
 use Rattle.version_store.specs.declared.history.Entry.{Entry}
 use Rattle.view_ends.specs.Desk.{Said}
-use Rattle.view_ends.specs.Ends.{Rose, RoseBy}
 use Rattle.view_commands.specs.Serve.{KeptSo, RoseWhere, journal_text}
 use Rattle.view_commands.specs.Texts.{KeepsText}
 use Rattle.view_commands.proofs.Runs.{read-so, kept-so, wrote-so, kept_file, limit-told}
