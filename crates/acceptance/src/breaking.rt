@@ -183,3 +183,19 @@ fn late_ones(rt: &impl Abort, alloc: Global, all: &[u8]) -> Result<(), Fail> {
 fn a_keeping_or_a_journal_that_fails_comes_after_the_session(rt: HostRuntime) -> Result<(), Fail> {
     late_ones(&rt, rt.alloc(), &whole(rt.alloc())?)
 }
+
+/// Serves where neither the output nor the journal can be kept: the output's failure counts.
+fn neither_is_kept(rt: &impl Abort, alloc: Global) -> Result<(), Fail> {
+    let mut desk = MemDesk::empty(alloc);
+    prepare(alloc, &mut desk, ("o", DeskCall::Keep, 0))?;
+    desk.fail("j", DeskCall::Keep, 0)?;
+    let ended = command(alloc, &mut desk, SERVE)?;
+    let status = Status::WriteFault { at: 5 };
+    command_ended(rt, &ended, status, Reason::WriteFault);
+    Ok(())
+}
+
+#[test]
+fn the_output_counts_where_neither_file_is_kept(rt: HostRuntime) -> Result<(), Fail> {
+    neither_is_kept(&rt, rt.alloc())
+}

@@ -80,7 +80,12 @@ fn leaves_all(
 
 /// Runs each command over this survey, which it has to refuse so and leave every file: also where
 /// no other file can be opened, since the refusal comes before.
-fn refuses(rt: &impl Abort, alloc: Global, survey: &[u8], fault: SurveyFault) -> Result<(), Fail> {
+pub(crate) fn refuses(
+    rt: &impl Abort,
+    alloc: Global,
+    survey: &[u8],
+    fault: SurveyFault,
+) -> Result<(), Fail> {
     let files: [File; 1] = [("a.las", survey)];
     for line in COMMANDS {
         leaves_all(rt, alloc, line, &files, &[], Status::Survey(fault))?;

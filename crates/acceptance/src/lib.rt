@@ -19,6 +19,8 @@ mod failing;
 #[cfg(test)]
 mod leaving;
 #[cfg(test)]
+mod older;
+#[cfg(test)]
 mod parts;
 #[cfg(test)]
 mod plain;

@@ -9,7 +9,12 @@ use view_commands::{Status, info};
 use view_ends::{MemDesk, StillDesk};
 
 /// An `info` of these bytes has to give this text, over either desk, and to leave the survey.
-fn tells(rt: &impl Abort, alloc: Global, survey: &[u8], text: &[u8]) -> Result<(), Fail> {
+pub(crate) fn tells(
+    rt: &impl Abort,
+    alloc: Global,
+    survey: &[u8],
+    text: &[u8],
+) -> Result<(), Fail> {
     let before: [File; 1] = [("a.las", survey)];
     let after: [File; 2] = [("a.txt", text), ("a.las", survey)];
     let line = "info a.las a.txt";
