@@ -18,7 +18,9 @@ def main():
     if len(read) != len(saved):
         sys.exit(f"{len(read)} bytes were read and {len(saved)} saved")
     start, form, length = (struct.unpack_from(kind, read, at)[0] for kind, at in (("<I", 96), ("<B", 104), ("<H", 105)))
-    records = struct.unpack_from("<Q", read, 247)[0] or struct.unpack_from("<I", read, 107)[0]
+    # LAS 1.4 has a wider count beside that of LAS 1.2 and 1.3.
+    wide = struct.unpack_from("<Q", read, 247)[0] if read[25] == 4 else 0
+    records = wide or struct.unpack_from("<I", read, 107)[0]
     end = start + records * length
     # LAS 1.4 R15: bits 0 to 4 of byte 15 in formats 0 to 5, the whole of byte 16 in formats 6 to 10.
     place, bits = (15, 0x1F) if form <= 5 else (16, 0xFF)
