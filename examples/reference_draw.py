@@ -3,8 +3,8 @@
 
     python3 examples/reference_draw.py draw SURVEY OUT WORKERS ortho W H .. FAR class all show
 
-Takes the words of `hidrevca draw` and writes the picture that they ask for, of a LAS 1.4 file of
-point data record format 0. It shares no code with the program, and looks for no fault.
+Takes the words of `hidrevca draw` and writes the picture that they ask for, of a LAS 1.2, 1.3 or 1.4
+file of any point data record format. It shares no code with the program, and looks for no fault.
 """
 
 import struct
@@ -14,11 +14,14 @@ import sys
 def read_points(survey):
     """Yields x, y, z and the class of each record."""
     (start,) = struct.unpack_from("<I", survey, 96)
-    (count,) = struct.unpack_from("<Q", survey, 247)
-    (legacy_count,) = struct.unpack_from("<I", survey, 107)
-    for number in range(count or legacy_count):
-        at = start + 20 * number
-        yield *struct.unpack_from("<3i", survey, at), survey[at + 15] % 32
+    (length,) = struct.unpack_from("<H", survey, 105)
+    # LAS 1.4 has a wider count beside that of LAS 1.2 and 1.3.
+    (wide,) = struct.unpack_from("<Q", survey, 247) if survey[25] == 4 else (0,)
+    (count,) = struct.unpack_from("<I", survey, 107)
+    place, bits = (15, 0x1F) if survey[104] <= 5 else (16, 0xFF)
+    for number in range(wide or count):
+        at = start + length * number
+        yield *struct.unpack_from("<3i", survey, at), survey[at + place] & bits
 
 
 def dot(a, b):
