@@ -53,7 +53,7 @@ pub record Empties (tells : Bool) (old new : Said) (name : List ℕ) : Type 0 wh
   pub others : OthersStay old.file new.file name
 
 -- why not all was opened, first the input, then the output and then the journal; that the files of those before
--- that were opened to write are empty, and all others as they were; and that no other count rose
+-- that were opened to write are empty, and all others as they were; and that no other count of failures rose
 abbrev pub NotOpened : Bool → Said → Said → List ℕ → List ℕ → List ℕ → status.Status → Type 0
 NotOpened tells old new journal input output (OpenFault at) =
     ((at ≡ INPUT) × Rose (old.unopened input) (new.unopened input) × Untouched (record old { unopened = new.unopened; taken = new.taken }) new)
