@@ -24,8 +24,9 @@ by `Point`.
 """
 
 import struct
-import sys
 from pathlib import Path
+
+from script_ends import Words, run
 
 # Bytes of the public header block, and formats, of each minor version.
 HEADER_SIZES = {2: 227, 3: 235, 4: 375}
@@ -213,9 +214,9 @@ def full_file(minor, number):
 
 
 def main():
-    if len(sys.argv) != 2:
-        sys.exit("usage: assemble.py FOLDER")
-    folder = Path(sys.argv[1])
+    parser = Words(__doc__)
+    parser.add_argument("folder", metavar="FOLDER")
+    folder = Path(parser.parse_args().folder)
     folder.mkdir(parents=True, exist_ok=True)
     for minor in HEADER_SIZES:
         front = "" if minor == 4 else f"las1{minor}-"
@@ -229,4 +230,4 @@ def main():
 
 
 if __name__ == "__main__":
-    main()
+    run(main, "assemble.py")

@@ -3,15 +3,16 @@
 
     python3 examples/damage.py FILE COPIES SEED FOLDER
 
-writes FOLDER/damaged-0.las and on, and prints what was done to each: cut short, bytes changed,
+FILE may be `-`, for standard input. Writes FOLDER/damaged-0.las and on, and prints what was done to each: cut short, bytes changed,
 a field of the header set to an extreme, bytes put in or taken out. A reader of LAS files answers
 each by a picture or by the fault that it names, and by nothing else. Of a file of LAS 1.2 or 1.3 the
 fields of LAS 1.4 alone are left as they are.
 """
 
 import random
-import sys
 from pathlib import Path
+
+from script_ends import Words, Wrong, read_bytes, run
 
 # Fields of the public header block that say where things are: name, offset, bytes.
 FIELDS = [
@@ -69,12 +70,18 @@ def take_out(data, pick):
 
 
 def main():
-    if len(sys.argv) != 5:
-        sys.exit("usage: damage.py FILE COPIES SEED FOLDER")
-    data = Path(sys.argv[1]).read_bytes()
-    copies, seed, folder = int(sys.argv[2]), int(sys.argv[3]), Path(sys.argv[4])
+    parser = Words(__doc__)
+    parser.add_argument("file", metavar="FILE")
+    parser.add_argument("copies", metavar="COPIES", type=int)
+    parser.add_argument("seed", metavar="SEED", type=int)
+    parser.add_argument("folder", metavar="FOLDER")
+    given = parser.parse_args()
+    if given.copies < 0:
+        parser.error("COPIES is 0 or more")
+    copies, seed, folder = given.copies, given.seed, Path(given.folder)
+    data = read_bytes(given.file)
     if not data:
-        sys.exit("damage.py: the file is empty")
+        raise Wrong(f"{given.file}: empty")
     folder.mkdir(parents=True, exist_ok=True)
     pick = random.Random(seed)
     for i in range(copies):
@@ -85,4 +92,4 @@ def main():
 
 
 if __name__ == "__main__":
-    main()
+    run(main, "damage.py")

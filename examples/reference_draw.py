@@ -4,23 +4,25 @@
     python3 examples/reference_draw.py draw SURVEY OUT WORKERS ortho W H .. FAR class all show
 
 Takes the words of `hidrevca draw` and writes the picture that they ask for, of a LAS 1.2, 1.3 or 1.4
-file of any point data record format. It shares no code with the program, and looks for no fault.
+file of any point data record format. It shares no code with the program.
+SURVEY and OUT may be `-`. Of a survey the header and the size are checked, of the camera the numbers that it divides by.
 """
 
+import re
 import struct
-import sys
+
+from script_ends import Words, read_bytes, run, write_bytes
+from survey_head import class_bits, head
+
+NUMBER = re.compile("-?[0-9]{1,20}")
 
 
-def read_points(survey):
+def read_points(survey, name="the file"):
     """Yields x, y, z and the class of each record."""
-    (start,) = struct.unpack_from("<I", survey, 96)
-    (length,) = struct.unpack_from("<H", survey, 105)
-    # LAS 1.4 has a wider count beside that of LAS 1.2 and 1.3.
-    (wide,) = struct.unpack_from("<Q", survey, 247) if survey[25] == 4 else (0,)
-    (count,) = struct.unpack_from("<I", survey, 107)
-    place, bits = (15, 0x1F) if survey[104] <= 5 else (16, 0xFF)
-    for number in range(wide or count):
-        at = start + length * number
+    known = head(survey, name)
+    place, bits = class_bits(known.format)
+    for number in range(known.records):
+        at = known.start + known.length * number
         yield *struct.unpack_from("<3i", survey, at), survey[at + place] & bits
 
 
@@ -52,14 +54,20 @@ def picture(points, numbers):
 
 
 def main():
-    words = sys.argv[1:]
+    parser = Words(__doc__)
+    parser.add_argument("words", nargs="+", metavar="WORD")
+    words = parser.parse_args().words
     if len(words) != 26 or words[0] != "draw" or words[4] != "ortho" or words[23:] != ["class", "all", "show"]:
-        sys.exit(__doc__)
-    with open(words[1], "rb") as survey:
-        points = read_points(survey.read())
-    with open(words[2], "wb") as out:
-        out.write(picture(points, [int(it) for it in words[5:23]]))
+        parser.error("the words are those of a draw by ortho, class all show, 26 in all")
+    for word in words[5:23]:
+        if not NUMBER.fullmatch(word):
+            parser.error(f"{word} is no number")
+    numbers = [int(word) for word in words[5:23]]
+    if not all(1 <= size <= 4096 for size in numbers[:2]) or min(numbers[14:16]) < 1:
+        parser.error("W and H are 1 to 4096, and K and T 1 or more")
+    points = read_points(read_bytes(words[1]), words[1])
+    write_bytes(words[2], picture(points, numbers))
 
 
 if __name__ == "__main__":
-    main()
+    run(main, "reference_draw.py")

@@ -3,6 +3,8 @@
 
     python3 examples/terrain.py OUT.las
 
+OUT.las may be `-`, for standard output; the line that counts the records goes to standard error then.
+
 A valley of 960 m by 680 m. Ground (class 2) is measured on contour lines every 5 m, on a wide
 grid between them and along the banks of a stream; the water gives no points. Buildings (class 6)
 have walls and gable roofs, trees (class 5) are cones. Only sums, products, quotients and square
@@ -12,6 +14,8 @@ roots are used, so that each machine writes the same bytes.
 import math
 import struct
 import sys
+
+from script_ends import Words, run, write_bytes
 
 EAST, NORTH = 960, 680  # metres of ground
 GROUND, TREE, BUILDING = 2, 5, 6
@@ -172,13 +176,13 @@ def survey(records):
 
 
 def main():
-    if len(sys.argv) != 2 or sys.argv[1].startswith("-"):
-        sys.exit("usage: terrain.py OUT.las")
+    parser = Words(__doc__)
+    parser.add_argument("out", metavar="OUT.las")
+    out = parser.parse_args().out
     records = [record(*it) for part in (ground(), buildings(), trees()) for it in part]
-    with open(sys.argv[1], "wb") as out:
-        out.write(survey(records))
-    print(f"{sys.argv[1]}: {len(records)} records")
+    write_bytes(out, survey(records))
+    print(f"{out}: {len(records)} records", file=sys.stderr if out == "-" else sys.stdout)
 
 
 if __name__ == "__main__":
-    main()
+    run(main, "terrain.py")
