@@ -14,6 +14,8 @@ import subprocess
 import sys
 import tempfile
 
+from script_ends import Words
+
 ROOT = os.path.dirname(os.path.dirname(os.path.realpath(__file__)))
 
 
@@ -34,6 +36,7 @@ def steps(text):
 
 
 def main():
+    Words(__doc__).parse_args()
     with open(os.path.join(ROOT, "docs", "GUIDE.md"), encoding="utf-8") as guide:
         commands = steps(guide.read())
     # Without words it is refused at once, with 2.

@@ -15,6 +15,7 @@ from fractions import Fraction
 
 import assemble
 import pixels
+import replies
 import survey_head
 import world_file
 from script_ends import Wrong
@@ -201,6 +202,17 @@ class WorldFiles(unittest.TestCase):
 
 SCRIPT = b"\nedit 0 0 0 9 9 9 all 32\n \t\r\nview x\nsave"
 REPLIES = b"REFUSED 4\nPICTURE 0 14\n" + ppm(1, 1, GROUND) + b"PICTURE 0 17\n" + ppm(2, 1, TREE, NONE) + b"FILE 0 3\nabc"
+
+
+class Lines(unittest.TestCase):
+    def test_lines_with_words_and_lines_that_are_too_long_have_a_reply(self):
+        # One CR is left away, a second one is a word; 4096 bytes are not too long, and blanks alone are no word.
+        script = b"\r\n\r\r\n" + b" " * 4096 + b"\n" + b" " * 4097 + b"\nsave\r\n"
+        self.assertEqual([number for number, _ in replies.answered(script)], [2, 4, 5])
+
+    def test_a_last_line_needs_no_end(self):
+        self.assertEqual(list(replies.answered(b"save\nsave")), [(1, "save"), (2, "save")])
+        self.assertEqual(list(replies.answered(b"")), [])
 
 
 class Scripts(unittest.TestCase):

@@ -16,6 +16,8 @@ import tempfile
 import threading
 import time
 
+from script_ends import Words
+
 ROOT = os.path.dirname(os.path.dirname(os.path.realpath(__file__)))
 PROGRAM = os.path.join(ROOT, "hidrevca")
 
@@ -384,6 +386,7 @@ def largest():
 
 
 def main():
+    Words(__doc__).parse_args()
     # Without words it is refused at once, with 2; a first run builds the program.
     built = subprocess.run([PROGRAM], stdout=subprocess.DEVNULL, stderr=subprocess.PIPE)
     if built.returncode != 2:

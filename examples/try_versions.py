@@ -17,6 +17,7 @@ import tempfile
 
 import assemble
 import reference_draw
+from script_ends import Words
 
 ROOT = os.path.dirname(os.path.dirname(os.path.realpath(__file__)))
 VIEW = "ortho 200 200 200 -100 0 1 0 0 0 1 0 0 0 1 5 1 0 4294967294 class all show"
@@ -78,6 +79,7 @@ def wrong(folder, survey):
 
 
 def main():
+    Words(__doc__).parse_args()
     count = 0
     with tempfile.TemporaryDirectory() as folder:
         for name, survey in files():
