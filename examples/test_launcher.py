@@ -1,0 +1,297 @@
+#!/usr/bin/env python3
+"""Tries the launcher `hidrevca` over a program that does what a test says, so it needs no build.
+
+    python3 examples/test_launcher.py
+
+Each run is made in a copy of the launcher's own files with a shell script in the place of the program.
+`RIGHT` are words that look right, over which the launcher becomes the program; `WRONG` has a survey that
+isn't there, so that the launcher stays beside it. Both have to be as the program alone.
+"""
+
+import os
+import shutil
+import signal
+import subprocess
+import sys
+import tempfile
+import unittest
+
+ROOT = os.path.dirname(os.path.dirname(os.path.realpath(__file__)))
+RIGHT = ["info", "survey", "out"]
+WRONG = ["info", "none", "out"]
+FURTHER = b"word 1 is 'none': no such file\n"
+CAMERA = "1 ortho 1 1 0 0 0 1 0 0 0 1 0 0 0 1 1 1 0 10 class all show".split()
+
+
+def default_signals():
+    """What a shell gives its commands, whatever this test was begun with."""
+    for number in (signal.SIGINT, signal.SIGQUIT, signal.SIGHUP, signal.SIGPIPE):
+        signal.signal(number, signal.SIG_DFL)
+
+
+class Launcher(unittest.TestCase):
+    def setUp(self):
+        tree = tempfile.TemporaryDirectory()
+        self.addCleanup(tree.cleanup)
+        self.root = os.path.realpath(tree.name)
+        out = os.path.join(self.root, "crates", "view_main", "out")
+        os.makedirs(out)
+        os.makedirs(os.path.join(self.root, "crates", "x", "src"))
+        shutil.copy(os.path.join(ROOT, "hidrevca"), self.root)
+        shutil.copytree(os.path.join(ROOT, "launcher"), os.path.join(self.root, "launcher"))
+        for name, text in (
+            ("crates.txt", "x:\n"),
+            ("survey", "LASF"),
+            ("README.md", "- The toolchain `kit 1 logic 2`: its checker.\n"),
+        ):
+            self.write(name, text)
+        self.program = os.path.join(out, "view_main")
+        self.write(self.program, '#!/bin/sh\neval "$DOES"\n')
+        os.chmod(self.program, 0o755)
+        self.launcher = os.path.join(self.root, "hidrevca")
+
+    def write(self, name, text):
+        with open(os.path.join(self.root, name), "w", encoding="utf-8") as file:
+            file.write(text)
+
+    def start(self, words, does, command=None, prepare=default_signals, **more):
+        streams = {"stdin": subprocess.PIPE, "stdout": subprocess.PIPE, "stderr": subprocess.PIPE, **more}
+        environment = {**os.environ, "DOES": does}
+        child = subprocess.Popen(
+            [command or self.launcher, *words], cwd=self.root, env=environment, preexec_fn=prepare, **streams
+        )
+        for pipe in (child.stdin, child.stdout, child.stderr):
+            self.addCleanup(lambda pipe=pipe: pipe and not pipe.closed and pipe.close())
+        return child
+
+    def end(self, words, does, stdin=b"", **more):
+        """The status, standard output and standard error of a run."""
+        child = self.start(words, does, **more)
+        out, err = child.communicate(stdin if child.stdin else None)
+        return child.returncode, out, err
+
+    def refused(self, words, text, status):
+        """What the launcher says after a program that ends so."""
+        got, out, err = self.end(words, f"echo '{text}' >&2; exit {status}")
+        line = text.encode() + b"\n"
+        self.assertEqual((got, out, err[: len(line)]), (status, b"", line))
+        return err[len(line) :]
+
+
+class Passing(Launcher):
+    def test_each_status_is_the_programs(self):
+        for status in (0, 2, 5, 12, 127):
+            for words in (RIGHT, WRONG):
+                # Of these the words only tell why a file can't be opened.
+                further = FURTHER if status == 5 and words is WRONG else b""
+                self.assertEqual(self.end(words, f"exit {status}"), (status, b"", further))
+
+    def test_the_streams_are_the_programs(self):
+        data = bytes(range(256)) * 1000
+        for words, further in ((RIGHT, b""), (WRONG, FURTHER)):
+            got = self.end(words, "cat; echo told >&2; exit 5", stdin=data)
+            self.assertEqual(got, (5, data, b"told\n" + further))
+
+    def test_the_words_are_the_programs(self):
+        for words in (RIGHT, WRONG, ["a b", "", "*", "-n", "$x\n", "\\"]):
+            got = self.end(words, r'printf "<%s>" "$@"; exit 3')
+            self.assertEqual(got, (3, "".join(f"<{word}>" for word in words).encode(), b""))
+
+    def test_descriptors_and_ignored_signals_are_those_of_the_program_alone(self):
+        def ignore():
+            default_signals()
+            signal.signal(signal.SIGHUP, signal.SIG_IGN)
+
+        # Read by the shell itself, since it blocks signals for a moment where it starts another program.
+        does = (
+            "ls /proc/$$/fd; while read -r name value; do case $name in Sig[BI]*) echo $name $value;; esac; done"
+            " < /proc/$$/status"
+        )
+        for prepare in (default_signals, ignore):
+            alone = self.end(WRONG, does, command=self.program, prepare=prepare)
+            for words in (RIGHT, WRONG):
+                self.assertEqual(self.end(words, does, prepare=prepare), alone)
+
+    def test_closed_streams_stay_closed(self):
+        for words in (RIGHT, WRONG):
+            for closed in (0, 1):
+                does = f"[ ! -e /proc/$$/fd/{closed} ] || exit 1; exit 3"
+                got = self.end(words, does, prepare=lambda: (default_signals(), os.close(closed)))
+                self.assertEqual(got, (3, b"", b""))
+            # Where standard error is closed bash has its script there, so only the rest is looked at.
+            got = self.end(words, "cat; exit 5", stdin=b"data", prepare=lambda: (default_signals(), os.close(2)))
+            self.assertEqual(got, (5, b"data", b""))
+
+    def test_a_reader_that_went_away_ends_the_program(self):
+        for words in (RIGHT, WRONG):
+            child = self.start(words, "while :; do echo line; done")
+            child.stdout.read(4)
+            child.stdout.close()
+            self.assertEqual((child.wait(), child.stderr.read()), (-signal.SIGPIPE, b""))
+
+    def test_what_the_program_closes_is_closed(self):
+        for words in (RIGHT, WRONG):
+            child = self.start(words, "exec >&-; read line")
+            # It ends while the program waits for the line.
+            self.assertEqual(child.stdout.read(), b"")
+            child.communicate(b"line\n")
+            child = self.start(words, "exec 3>&1 <&- ; echo ready; while kill -0 $PPID; do sleep 0.01; done")
+            child.stdout.readline()
+            with self.assertRaises(BrokenPipeError):
+                os.write(child.stdin.fileno(), b"line\n")
+            child.kill()
+            child.wait()
+
+
+class Signals(Launcher):
+    def test_the_program_gets_a_signal_and_its_end_is_the_launchers(self):
+        numbers = [signal.SIGTERM, signal.SIGINT, signal.SIGHUP, signal.SIGQUIT, signal.SIGUSR1, signal.SIGALRM]
+        if shutil.which("setpriv"):
+            numbers += [signal.SIGKILL, signal.SIGVTALRM]
+        for number in numbers:
+            for words in (RIGHT, WRONG):
+                child = self.start(words, "ulimit -c 0; echo ready; read line")
+                self.assertEqual(child.stdout.readline(), b"ready\n")
+                child.send_signal(number)
+                # Standard output ends where the program is gone.
+                self.assertEqual((child.stdout.read(), child.wait(), child.stderr.read()), (b"", -number, b""))
+
+    def test_a_program_that_catches_a_signal_goes_on(self):
+        for words, further in ((RIGHT, b""), (WRONG, FURTHER)):
+            child = self.start(words, "trap 'echo caught' TERM; trap 'exit 5' INT; echo ready; while :; do read l; done")
+            child.stdout.readline()
+            for _ in range(3):
+                child.send_signal(signal.SIGTERM)
+                self.assertEqual(child.stdout.readline(), b"caught\n")
+            child.send_signal(signal.SIGINT)
+            self.assertEqual((child.wait(), child.stderr.read()), (5, further))
+
+    def test_a_program_that_a_signal_ends_ends_the_launcher(self):
+        for number in (signal.SIGKILL, signal.SIGSEGV, signal.SIGINT):
+            for words in (RIGHT, WRONG):
+                got = self.end(words, f"ulimit -c 0; kill -{int(number)} $$")
+                self.assertEqual(got, (-number, b"", b""))
+
+    def test_an_ignored_signal_stays_ignored(self):
+        def ignore():
+            default_signals()
+            signal.signal(signal.SIGHUP, signal.SIG_IGN)
+
+        for words in (RIGHT, WRONG):
+            child = self.start(words, "echo ready; read l; exit 3", prepare=ignore)
+            child.stdout.readline()
+            child.send_signal(signal.SIGHUP)
+            child.communicate(b"line\n")
+            self.assertEqual(child.returncode, 3)
+
+
+class Words(Launcher):
+    def test_a_word_that_is_missing(self):
+        for words, at in ((["serve", "survey", "1", "j"], 4), (["draw"], 1), (["info", "survey"], 2)):
+            further = self.refused(words, f"word {at} is not expected", 2)
+            self.assertEqual(further, f"word {at} is missing\n".encode())
+
+    def test_no_words_show_the_commands(self):
+        further = self.refused([], "word 0 is not expected", 2).decode().splitlines()
+        self.assertEqual(further[0], "word 0 is missing")
+        self.assertEqual("\n".join(further[1:]) + "\n", self.end(["help"], "")[1].decode())
+
+    def test_a_word_that_does_not_fit(self):
+        for words, at, said in (
+            (["frob"], 0, "'frob': no command; the commands are draw, info and serve"),
+            (["draw", "a", "b", "65"], 3, "'65', where WORKERS is wanted: a number from 1 to 64; it changes nothing yet"),
+            (["draw", "a", "b", *CAMERA, "x y"], 26, "'x y': the words of draw end before it"),
+            (["draw", "a", "a", *CAMERA], 2, "'a', as word 1 is"),
+            (["serve", "a", "1", "-", "i", "-"], 5, "'-', as word 3 is"),
+            (["serve", "-", "1", "-", "-", "o"], 4, "'-', as word 1 is"),
+            (["info", "", "b"], 1, "'', where SURVEY is wanted: the name of a LAS file, or - for standard input"),
+            (["frob\x1b[2J"], 0, "$'frob\\E[2J': no command; the commands are draw, info and serve"),
+            (["grün"], 0, "'grün': no command; the commands are draw, info and serve"),
+        ):
+            further = self.refused(words, f"word {at} is not expected", 2)
+            self.assertEqual(further.decode(), f"word {at} is {said}\n")
+
+    def test_a_word_that_is_not_utf8(self):
+        # A lone byte, a cut letter, a surrogate, and a number above the greatest, at the second place.
+        for word, said in (
+            (b"\xff", b"\\377"),
+            (b"a\xc3", b"a\\303"),
+            (b"\xed\xa0\x80", b"\\355\\240\\200"),
+            (b"\xf4\x90\x80\x80", b"\\364\\220\\200\\200"),
+        ):
+            further = self.refused([b"info", b"survey", word], "word 0 is not expected", 2)
+            self.assertEqual(further, b"word 2 isn't UTF-8: $'" + said + b"'\n")
+
+    def test_a_file_that_can_not_be_opened_or_read(self):
+        os.symlink("survey", os.path.join(self.root, "link"))
+        for words, at, status, said in (
+            (["info", "nope", "o"], 1, 5, "'nope': no such file"),
+            (["info", "crates", "o"], 1, 6, "'crates': a folder"),
+            (["draw", "survey", "none/o", *CAMERA], 2, 5, "'none/o': no such folder"),
+            (["info", "survey", "./survey"], 2, 5, "'./survey': the file of word 1"),
+            (["info", "survey", "link"], 2, 5, "'link': the file of word 1"),
+            (["serve", "survey", "1", "j", "none", "o"], 4, 5, "'none': no such file"),
+            (["serve", "survey", "1", "./o", "crates.txt", "o"], 3, 5, "'./o': the file of word 5"),
+        ):
+            verb = {5: "open", 6: "read"}[status]
+            further = self.refused(words, f"cannot {verb} word {at}", status)
+            self.assertEqual(further.decode(), f"word {at} is {said}\n")
+
+    def test_a_device_that_is_full_and_a_script_that_is_too_long(self):
+        if os.path.exists("/dev/full"):
+            further = self.refused(["info", "survey", "/dev/full"], "cannot write word 2", 9)
+            self.assertEqual(further, b"word 2 is '/dev/full': a full device\n")
+        # 2^20 bytes are allowed, and one more isn't.
+        for length, said in ((1 << 20, b""), ((1 << 20) + 1, b"word 4 is 'script': more than 1048576 bytes\n")):
+            self.write("script", "#" * length)
+            words = ["serve", "survey", "1", "j", "script", "o"]
+            self.assertEqual(self.refused(words, "session input of word 4 is too long", 10), said)
+
+    def test_another_status_than_the_word_would_give_says_nothing(self):
+        for status in (8, 9):
+            self.assertEqual(self.end(WRONG, f"exit {status}"), (status, b"", b""))
+
+
+class Help(Launcher):
+    def test_help_needs_no_program(self):
+        os.remove(self.program)
+        for words in (["-h"], ["--help"], ["help"]):
+            status, out, err = self.end(words, "")
+            lines = out.decode().splitlines()
+            self.assertEqual((status, err, lines[-1]), (0, b"", f"The guide: {self.root}/docs/GUIDE.md"))
+            for start in ("  hidrevca draw SURVEY OUT WORKERS KIND W H ", "  ./hidrevca draw ", "  hidrevca serve SURVEY "):
+                self.assertEqual(sum(line.startswith(start) for line in lines), 1)
+
+    def test_the_help_of_a_command_has_each_word(self):
+        for command, count in (("draw", 25), ("info", 2), ("serve", 5), ("trial", 4)):
+            status, out, _ = self.end(["help", command], "")
+            places = [line.split()[0] for line in out.decode().splitlines() if line[:5].strip().isdigit()]
+            self.assertEqual((status, places), (0, [str(place) for place in range(1, count + 1)]))
+
+    def test_help_for_what_is_no_command(self):
+        for words in (["help", "frob"], ["help", "../x"], ["help", ""], ["help", "draw", "info"]):
+            said = b"hidrevca: help is there for draw, info, serve and trial, one at a time\n"
+            self.assertEqual(self.end(words, ""), (2, b"", said))
+
+    def test_the_version_has_the_kit_of_readme_where_rt_is_not_there(self):
+        folder = os.path.join(self.root, "bin")
+        os.mkdir(folder)
+        for name in ("bash", "env", "sed", "head", "dirname", "readlink"):
+            os.symlink(shutil.which(name), os.path.join(folder, name))
+        path = os.environ["PATH"]
+        os.environ["PATH"] = folder
+        try:
+            self.assertEqual(self.end(["--version"], ""), (0, b"kit 1 logic 2\n", b""))
+            self.write("bin/rt", "#!/bin/sh\necho kit 3; echo more\n")
+            os.chmod(os.path.join(folder, "rt"), 0o755)
+            os.symlink(shutil.which("sh", path=path), os.path.join(folder, "sh"))
+            self.assertEqual(self.end(["--version"], ""), (0, b"kit 3\n", b""))
+        finally:
+            os.environ["PATH"] = path
+
+
+if __name__ == "__main__":
+    if sys.argv[1:] in (["-h"], ["--help"]):
+        print(__doc__)
+    else:
+        unittest.main()

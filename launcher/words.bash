@@ -1,0 +1,279 @@
+# What the launcher adds to the program: help, the version, and the line that says what a word is.
+# It stands on `root`, `program` and `say` of the launcher.
+# shellcheck disable=SC2154
+
+help_folder=$root/launcher/help
+guide_line="The guide: $root/docs/GUIDE.md"
+
+# The commands with their words; or the words of one command.
+show_help() {
+  local topic=${1-commands}
+  if [ $# -gt 1 ] || [ "$topic" != "${topic//\//}" ] || [ ! -f "$help_folder/$topic.txt" ]; then
+    say "help is there for draw, info, serve and trial, one at a time"
+    exit 2
+  fi
+  cat -- "$help_folder/$topic.txt" && printf '\n%s\n' "$guide_line" || exit 1
+}
+
+# The kit's line, and the commit where this folder is the repository's.
+version() {
+  local kit='' commit=''
+  if command -v rt >/dev/null; then kit=$(rt version 2>/dev/null </dev/null | head -n 1); fi
+  # shellcheck disable=SC2016
+  [ -n "$kit" ] || kit=$(sed -n 's/^- The toolchain `\([^`]*\)`.*/\1/p' "$root/README.md")
+  printf '%s\n' "${kit:-kit unknown}" || exit 1
+  if [ -e "$root/.git" ] && commit=$(git -C "$root" rev-parse HEAD 2>/dev/null); then
+    git -C "$root" diff --quiet HEAD 2>/dev/null || commit="$commit, with changes"
+    printf 'commit %s\n' "$commit" || exit 1
+  fi
+}
+
+# Byte by byte, since the bounds of the ranges below are bytes.
+is_utf8() {
+  local LC_ALL=C
+  local tail=$'[\x80-\xbf]' text=$'[\x01-\x7f]'
+  text+=$'|[\xc2-\xdf]'$tail$'|\xe0[\xa0-\xbf]'$tail$'|[\xe1-\xec\xee\xef]'$tail$tail$'|\xed[\x80-\x9f]'$tail
+  text+=$'|\xf0[\x90-\xbf]'$tail$tail$'|[\xf1-\xf3]'$tail$tail$tail$'|\xf4[\x80-\x8f]'$tail$tail
+  [[ $1 =~ ^($text)*$ ]]
+}
+
+# A word in quotes; one with bytes that a terminal may act on, as the shell writes it.
+quoted() {
+  local LC_ALL=C
+  if ! is_utf8 "$1" || [[ $1 =~ [$'\x01'-$'\x1f'$'\x7f'\'] || $1 =~ $'\xc2'[$'\x80'-$'\x9f'] ]]; then
+    printf '%q' "$1"
+  else
+    printf "'%s'" "$1"
+  fi
+}
+
+# Whether the words are those of a line that is built. Where it says no the program mostly ends at once.
+looks_right() {
+  local workers='^0{0,18}([1-9]|[1-5][0-9]|6[0-4])$' number='^-?[0-9]{1,20}$' word
+  for word; do is_utf8 "$word" && [ -n "$word" ] || return 1; done
+  case ${1-}:$# in
+    info:3) [[ $2 != "$3" || $2 = - ]] ;;
+    draw:26)
+      for word in "${@:6:18}"; do [[ $word =~ $number ]] || return 1; done
+      [[ ( $2 != "$3" || $2 = - ) && $4 =~ $workers && $5 = ortho && "${*:24}" = 'class all show' ]]
+      ;;
+    serve:6)
+      [[ $3 =~ $workers && $2 != "$5" && $4 != "$6" ]] || return 1
+      [[ ( $2 != "$4" && $2 != "$6" || $2 = - ) && ( $5 != "$4" && $5 != "$6" || $5 = - ) ]]
+      ;;
+    *) return 1 ;;
+  esac
+}
+
+# Notes the statuses that a word of the line would give, its place, and what is wrong with it.
+faults=()
+note() { faults+=("$1|$2|$3"); }
+
+# The name of a file to read, and its place.
+foresee_read() {
+  local name=$1 at=$2 folder
+  if [ "$name" = - ]; then
+    if [ ! -e /dev/fd/0 ]; then note '5 6' "$at" 'standard input is closed'; fi
+    name=/dev/fd/0
+  elif [ ! -e "$name" ]; then
+    case $name in */*) folder=${name%/*}/ ;; *) folder=. ;; esac
+    if [ -d "$folder" ] && [ ! -x "$folder" ]; then
+      note 5 "$at" 'you may not look into its folder'
+    else
+      note 5 "$at" 'no such file'
+    fi
+  fi
+  if [ -d "$name" ]; then
+    note '5 6' "$at" 'a folder'
+  elif [ -S "$name" ]; then
+    note '5 6' "$at" 'a socket'
+  elif [ -e "$name" ] && [ "$name" != /dev/fd/0 ] && [ ! -r "$name" ]; then
+    note '5 6' "$at" 'you may not read it'
+  fi
+}
+
+# The name of a file to write, its place, and the places of the names that are opened before it.
+foresee_write() {
+  local name=$1 at=$2 folder other earlier
+  shift 2
+  if [ "$name" = - ]; then
+    if [ /dev/fd/1 -ef /dev/full ]; then note 9 "$at" 'standard output is a full device'; fi
+    if [ ! -e /dev/fd/1 ]; then note 9 "$at" 'standard output is closed'; fi
+    return
+  fi
+  for other; do
+    earlier=${words[other]}
+    if [ "$earlier" = - ]; then continue; fi
+    if [ -f "$name" ] && [ "$name" -ef "$earlier" ] ||
+      [ ! -e "$name" ] && [ "$(readlink -f -- "$name")" = "$(readlink -f -- "$earlier")" ]; then
+      note 5 "$at" "the file of word $other"
+    fi
+  done
+  # A link to no file makes one where it leads.
+  if [ -L "$name" ] && [ ! -e "$name" ]; then name=$(readlink -m -- "$name"); fi
+  case $name in */*) folder=${name%/*}/ ;; *) folder=. ;; esac
+  if [ -d "$name" ]; then
+    note '5 9' "$at" 'a folder'
+  elif [ -S "$name" ]; then
+    note 5 "$at" 'a socket'
+  elif [ "$name" -ef /dev/full ]; then
+    note 9 "$at" 'a full device'
+  elif [ -e "$name" ]; then
+    [ -w "$name" ] || note 5 "$at" 'you may not write it'
+  elif [ ! -d "$folder" ]; then
+    note 5 "$at" "no such folder"
+  elif [ ! -w "$folder" ] || [ ! -x "$folder" ]; then
+    note 5 "$at" 'you may not write in its folder'
+  fi
+}
+
+# Only a regular file tells its length before it is read.
+foresee_length() {
+  local name=$1
+  if [ "$name" = - ]; then name=/dev/fd/0; fi
+  if [ -f "$name" ] && [ -n "$(find -L "$name" -prune -size +1048576c 2>/dev/null)" ]; then
+    note 10 "$2" 'more than 1048576 bytes'
+  fi
+}
+
+# What can be seen of a built line before it runs, in the order in which the program opens its files.
+foresee() {
+  foresee_read "$2" 1
+  if [ "$1" = serve ]; then
+    foresee_read "$5" 4
+    foresee_write "$6" 5 1 4
+    foresee_write "$4" 3 1 4 5
+    foresee_length "$5" 4
+  else
+    foresee_write "$3" 2 1
+  fi
+}
+
+# Whether a name is read or written; nothing where the place is no name's.
+way() {
+  case $1 in
+    SURVEY | IN) echo read ;;
+    OUT | JOURNAL) echo written ;;
+  esac
+}
+
+# The line of a command's help that tells of a place, its number left away.
+place_line() {
+  local at=$2
+  if [ "$1" = serve ] && [ "$at" -gt 5 ] && [ "$at" -lt 36 ]; then at=$((4 + at % 2)); fi
+  case $1 in
+    draw | info | serve | trial) sed -n "s/^ *$at \([A-Z]*\)  *\(.*\)/\1 \2/p" "$help_folder/$1.txt" ;;
+  esac
+}
+
+# Says what the word is that doesn't fit at this place.
+explain_word() {
+  local at=$1 word line label other earlier
+  for other in "${!words[@]}"; do
+    is_utf8 "${words[other]}" || { echo "word $other isn't UTF-8: $(quoted "${words[other]}")"; return; }
+  done
+  if [ "$at" -ge "${#words[@]}" ]; then echo "word $at is missing"; return; fi
+  word=${words[at]}
+  line=$(place_line "${words[0]}" "$at")
+  label=${line%% *}
+  if [ "$at" -eq 0 ]; then
+    echo "word 0 is $(quoted "$word"): no command; the commands are draw, info and serve"
+  elif [ -z "$line" ]; then
+    echo "word $at is $(quoted "$word"): the words of ${words[0]} end before it"
+  else
+    for ((other = 1; other < at && ${#word}; other++)); do
+      if [ "${words[other]}" != "$word" ] || [ -z "$(way "$label")" ]; then continue; fi
+      earlier=$(place_line "${words[0]}" "$other")
+      if [ "$word" = - ] && [ "$(way "${earlier%% *}")" != "$(way "$label")" ]; then continue; fi
+      echo "word $at is $(quoted "$word"), as word $other is"
+      return
+    done
+    echo "word $at is $(quoted "$word"), where $label is wanted: ${line#* }"
+  fi
+}
+
+# The further line for a status, or none.
+explain() {
+  local status=$1 told fault statuses at what
+  if [ "$status" -eq 2 ]; then
+    # Words are refused before anything is opened or changed, so the program can be asked once more.
+    told=$("$program" "${words[@]}" 2>&1 >/dev/null </dev/null)
+    if [[ $told =~ ^word\ ([0-9]{1,6})\ is\ not\ expected$ ]]; then explain_word "${BASH_REMATCH[1]}"; fi
+    return
+  fi
+  for fault in "${faults[@]}"; do
+    statuses=${fault%%|*} fault=${fault#*|}
+    at=${fault%%|*} what=${fault#*|}
+    if [[ " $statuses " = *" $status "* ]]; then
+      echo "word $at is $(quoted "${words[at]}"): $what"
+      return
+    fi
+  done
+}
+
+# Hands a signal on to the program, or takes it where there is none yet.
+pass() {
+  passed=1
+  if [ -n "$child" ]; then
+    kill -s "$1" "$child" 2>/dev/null
+  else
+    trap - "$1"
+    kill -s "$1" $$
+  fi
+}
+
+# Ends by the signal that ended the program.
+end_by() {
+  local signal kill
+  signal=$(kill -l "$1" 2>/dev/null) || exit "$1"
+  ulimit -c 0
+  # bash itself doesn't end by QUIT.
+  if [ "$signal" = QUIT ] && kill=$(type -P kill); then exec "$kill" -QUIT $$; fi
+  trap - "$signal"
+  kill -s "$signal" $$
+  exit "$1"
+}
+
+# Runs the program as a child that has the streams and the signals as they are here, and ends as it ended.
+# A stop of this shell alone isn't handed on.
+run_and_explain() {
+  local signals=(HUP INT QUIT USR1 USR2 ALRM TERM) signal errors input status before=127 parent=()
+  child='' passed=''
+  # Where this launcher is killed, the program goes too.
+  if command -v setpriv >/dev/null; then parent=(setpriv --pdeathsig KILL --); fi
+  # shellcheck disable=SC2064
+  for signal in "${signals[@]}"; do trap "pass $signal" "$signal"; done
+  # Without a redirection of its own a child behind & would have no standard input.
+  if [ -e /dev/fd/0 ]; then exec {input}<&0; else input=-; fi
+  (
+    trap - "${signals[@]}"
+    if [ "$input" = - ]; then exec "${parent[@]}" "$program" "$@"; fi
+    exec "${parent[@]}" "$program" "$@" {input}<&-
+  ) <&"$input" &
+  child=$!
+  # An end that the program closes has no other holder here.
+  exec {errors}>&2 2>/dev/null </dev/null >/dev/null
+  if [ "$input" != - ]; then exec {input}<&-; fi
+  while wait "$child"; status=$?; [ -n "$passed" ]; do passed='' before=$status; done
+  # A signal that came just after the wait asks for the status a second time.
+  if [ "$status" -eq 127 ]; then status=$before; fi
+  if [ "$status" -gt 128 ]; then end_by "$status"; fi
+  for signal in "${signals[@]}"; do trap - "$signal"; done
+  exec 2>&"$errors"
+  if [ "$status" -ne 0 ]; then explain "$status" >&2; fi
+  if [ ${#words[@]} -eq 0 ]; then (show_help commands >&2); fi
+  exit "$status"
+}
+
+# Runs the program in the place of this shell, so that nothing stands between, unless what can be seen of
+# the words beforehand says that it will refuse one of them.
+run() {
+  words=("$@")
+  if looks_right "$@"; then
+    foresee "$@"
+    if [ ${#faults[@]} -eq 0 ]; then exec "$program" "$@"; fi
+  fi
+  # With standard error closed nothing can be said.
+  if [ ! -e /dev/fd/2 ]; then exec "$program" "$@"; fi
+  run_and_explain "$@"
+}
