@@ -44,7 +44,7 @@ def decimal(text):
 
 def standard_input():
     if sys.stdin is None:
-        raise Fault("standard input is closed")
+        raise Fault("it is closed")
     return sys.stdin.buffer
 
 
@@ -57,6 +57,8 @@ def read_text(name):
             return file.read().decode("utf-8", "replace")
     except OSError as fault:
         raise Fault(f"{name}: {fault.strerror}") from None
+    except Fault as fault:
+        raise Fault(f"standard input: {fault}") from None
 
 
 def run(main):
