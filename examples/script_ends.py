@@ -43,6 +43,18 @@ def open_bytes(name):
         raise Wrong(f"cannot read {name}: {reason(fault)}") from None
 
 
+def standard_input():
+    """Standard input, where it is open."""
+    if sys.stdin is None:
+        raise Wrong("it is closed")
+    return sys.stdin.buffer
+
+
+def read_text(name):
+    """The text of a file, or of standard input for `-`."""
+    return read_bytes(name).decode("utf-8", "replace")
+
+
 def write_bytes(name, content):
     """Writes these bytes into a file, or to standard output for `-`."""
     try:
