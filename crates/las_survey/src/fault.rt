@@ -11,7 +11,7 @@ pub enum SurveyFault {
     /// Variable length record `k`, from 0, which begins at byte `at`, does not end before the
     /// points and within the file.
     Vlr { k: u32, at: u64 },
-    /// The header and the points need `need` bytes, and the file has `have`.
+    /// The points end at byte `need`, and the file has `have` bytes.
     Points { need: u128, have: u64 },
     /// Extended variable length record `k`, from 0, which begins at byte `at`, does not begin
     /// after the points and end within the file.

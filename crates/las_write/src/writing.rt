@@ -13,9 +13,9 @@ use view_ends::{EndFault, Sink, give_all};
 /// How many bytes of records are given at once. A record is shorter.
 const ROOM: usize = 1 << 16;
 
-/// Gives a survey's file to a sink, with the class bits of each record set to its class and every
-/// other bit as read (LAS 1.4 R15, classification). After an `Err` the sink got only some front of
-/// it. It takes no memory.
+/// Gives a survey's file to a sink, as it was read but for the classes: each record has the one of
+/// the list, and keeps its flags (LAS 1.4 R15, classification). After an `Err` the sink got only
+/// some front of it. It takes no memory.
 pub fn write_survey<K: Sink>(
     survey: &Survey,
     classes: &Classes,

@@ -18,8 +18,8 @@ const STANDARD: &str = "-";
 /// The desk of the system: its files, and its standard streams under the name `-`, each of which
 /// can be opened once. It tells no bytes, and counts each error as a fault.
 ///
-/// No regular file that this desk opened is opened to write again, by whatever name or link, and
-/// none is opened to read while it is written: the opening fails. An opening to write leaves a
+/// No regular file that this desk opened by a name other than `-` is opened to write again, by
+/// whatever such name or link, and none is opened to read while it is written: the opening fails. An opening to write leaves a
 /// regular file as it is; the file is cut when its first byte is given or when it is kept.
 #[derive(Drop)]
 pub struct HostDesk<R> {

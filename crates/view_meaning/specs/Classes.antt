@@ -61,6 +61,10 @@ classes b edits = map (class_at b edits) (range_with_len 0 (record_count b))
 unfoldable pub passes : List ℕ → List ℕ → Filter → ℕ → Bool
 passes b cs filter i = has filter.classes (slice_index cs i) && not (filter.hide_withheld && withheld_of b i)
 
+-- how many records pass a filter under these classes
+unfoldable pub passing : List ℕ → List ℕ → Filter → ℕ
+passing b cs filter = count_by (passes b cs filter) (range_with_len 0 (record_count b))
+
 -- at how many places two lists of classes differ
 unfoldable pub changed : List ℕ → List ℕ → ℕ
 changed old new = count_by (λ i. not (slice_index old i == slice_index new i)) (range_with_len 0 (length old))

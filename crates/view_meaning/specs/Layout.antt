@@ -40,7 +40,7 @@ first_fault (Some fault ∷ others) = Some fault
 abbrev pub least_length : ℕ → ℕ
 least_length format = slice_index (20 ∷ 28 ∷ 26 ∷ 34 ∷ 57 ∷ 63 ∷ 30 ∷ 36 ∷ 38 ∷ 59 ∷ 67 ∷ []) format
 
--- the bytes of the public header block of a version
+-- the bytes of the public header block of LAS 1.2, 1.3 and 1.4, by the minor number
 unfoldable pub block_size : ℕ → ℕ
 block_size minor = if minor == 2 then 227 else if minor == 3 then 235 else 375
 

@@ -1,5 +1,5 @@
 -- The picture of a survey: each pixel shows the nearest record that falls on it.
-use Rattle.std.specs.Prelude.{◌≡◌, ℕ, ◌+◌, ◌*◌, ◌/◌, ◌%◌, ◌<◌, ◌≤◌, ◌⊎◌, ◌==◌, ◌&&◌, nat_lt, min, if◌then◌else◌, Bool, false, IsTrue, List, [], ◌∷◌, ◌++◌, filter, codes, slice_index, Option, Some, None}
+use Rattle.std.specs.Prelude.{◌≡◌, ℕ, ◌+◌, ◌*◌, ◌/◌, ◌%◌, ◌<◌, ◌≤◌, ◌⊎◌, ◌==◌, ◌&&◌, nat_lt, min, if◌then◌else◌, Bool, true, false, IsTrue, List, [], ◌∷◌, ◌++◌, filter, codes, slice_index, Option, Some, None, is_some}
 use Rattle.std.specs.List.{range_with_len, flat_map}
 use Rattle.std.specs.Fmt.{decimal}
 use Rattle.view_base.specs.declared.colour.Rgb.{Rgb}
@@ -67,6 +67,13 @@ rgb_colour rule b i (Some place) = channels rule (rgb_at b (record_at b i + plac
 -- three equal bytes
 abbrev pub grey : ℕ → List ℕ
 grey n = n ∷ n ∷ n ∷ []
+
+-- whether records of a format have what a colouring shows: red, green and blue, where it shows them
+abbrev pub can_colour : ℕ → colouring.Colouring → Bool
+can_colour format Class = true
+can_colour format Rgb16 = is_some (rgb_place format)
+can_colour format Rgb8 = is_some (rgb_place format)
+can_colour format Intensity = true
 
 -- the three bytes that show record i, by each colouring
 abbrev pub colour_by : colouring.Colouring → List ℕ → List ℕ → ℕ → List ℕ
