@@ -25,9 +25,19 @@ pub record_bytes-drawn : (start format i u x y z intensity class : ℕ) → u �
     → record_bytes format x y z intensity class ≡ made_record start format i
 unfolding made_record
 record_bytes-drawn start format i u x y z intensity class at first second third fourth fifth =
-    rw (first, second, third, fourth, fifth, at,
-      draw-more start (5 * i) 0 (5 * i) (omega arith), draw-more start (5 * i) 1 (5 * i + 1) refl, draw-more start (5 * i) 2 (5 * i + 2) refl,
-      draw-more start (5 * i) 3 (5 * i + 3) refl, draw-more start (5 * i) 4 (5 * i + 4) refl) refl
+    rw (
+      first,
+      second,
+      third,
+      fourth,
+      fifth,
+      at,
+      draw-more start (5 * i) 0 (5 * i) (omega arith),
+      draw-more start (5 * i) 1 (5 * i + 1) refl,
+      draw-more start (5 * i) 2 (5 * i + 2) refl,
+      draw-more start (5 * i) 3 (5 * i + 3) refl,
+      draw-more start (5 * i) 4 (5 * i + 4) refl,
+    ) refl
 
 -- the records after one more
 pub records-more : (start format i : ℕ) (old before after more : List ℕ) → before ≡ old ++ flat_map (made_record start format) (range_with_len 0 i)

@@ -1,3 +1,4 @@
 pub mod Pieces
 pub mod Drawing
 pub mod Room
+pub mod Laid

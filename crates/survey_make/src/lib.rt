@@ -4,5 +4,7 @@
 mod draws;
 mod making;
 mod record;
+#[cfg(test)]
+mod tests;
 
 pub use making::make;

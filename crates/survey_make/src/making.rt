@@ -2,7 +2,7 @@ ghost use Rattle.std.specs.Prelude.{◌≡◌, ◌≤◌, ◌+◌, ◌*◌, ◌+
 ghost use Rattle.std.specs.Int.{to_le_bytes, w16, w32, w64};
 ghost use Rattle.std.specs.List.{range_with_len, flat_map};
 ghost use Rattle.survey_make.specs.Made.{draw, made, made_header, made_record, state, zeros};
-ghost use Rattle.view_meaning.specs.Layout.{least_length};
+ghost use Rattle.view_meaning.specs.Layout.{least_length, IsLaid};
 
 use crate::draws::Draws;
 use crate::record::Numbers;
@@ -19,7 +19,8 @@ const HEADER: u16 = 375;
 pub fn make(alloc: Global, start: u64, records: u32, format: u8) -> Result<Bytes, OutOfMemory>
     requires format { format ≤ 10 }
     requires few { records ≤ 2 ^ 23 }
-    ensures { IfOk result (λ bytes. bytes.items ≡ made start records format) }
+    ensures bytes { IfOk result (λ bytes. bytes.items ≡ made start records format) }
+    ensures laid { IsLaid (made start records format) }
 {
     let length = usize::from(least_length(format));
     let mut bytes = Bytes::new(alloc);
