@@ -42,15 +42,6 @@ plotted_more b cs view n next words new passing few far after drawn frame =
     plotted_at b cs view n words (spot view.camera (point_of b n)) passing few (omega (arith, far)) refl frame in
     subst (λ (k : ℕ). IsFrameBelow k b cs view new) (sym after) (subst (λ l. IsFrameBelow (suc n) b cs view l) (sym drawn) more)
 
--- whether a record passes, by its class and its withheld flag
-pub passes-parts : (b cs : List ℕ) (classes : List ℕ) (hide : Bool) (filter : Filter) (n class : ℕ) (found hidden : Bool) → ◌≡◌ {A = Filter} (record { classes = classes; hide_withheld = hide }) filter
-    → class ≡ slice_index cs n → found ≡ has classes class → hidden ≡ (hide && withheld_of b n) → (found && not hidden) ≡ passes b cs filter n
-unfolding passes
-passes-parts b cs classes hide filter n class found hidden is read has_it is_hidden =
-    ap (λ (f : Bool). f && not hidden) (has_it ∙ ap (has classes) read)
-    ∙ ap (λ (h : Bool). has classes (slice_index cs n) && not h) is_hidden
-    ∙ ap (λ (f : Filter). has f.classes (slice_index cs n) && not (f.hide_withheld && withheld_of b n)) is
-
 -- each record passes a filter of all classes that hides nothing
 pub passes-any : (b cs : List ℕ) (filter : Filter) (n class : ℕ) → filter.classes ≡ all_classes → filter.hide_withheld ≡ false → class ≡ slice_index cs n → class < 256 → passes b cs filter n ≡ true
 passes-any b cs filter n class all none read small = passes-all b cs filter n all none (omega (arith, read, small))

@@ -77,7 +77,8 @@ fn plot_all(words: &mut [u64], survey: &Survey, classes: &Classes, view: &ViewSp
     ensures words { IsFrame survey.now classes.now view.now words.new }
     ensures few { record_count survey.now ≤ 53687091 }
 {
-    for number in 0..survey.records() {
+    let records = survey.records();
+    for number in 0..records {
         // A class is a byte, and the set of all classes has each byte.
         prove!(ClassSet::all().has(classes.class_at(number)));
         plot_record(words, survey, &view.camera, number);

@@ -4,6 +4,8 @@
 
 mod paint;
 mod pixels;
+#[cfg(test)]
+mod tests;
 
 pub use las_points::can_colour;
 pub use pixels::colours;

@@ -13,7 +13,7 @@ loop-number-init c = subst (λ (l : List ℕ). IsFrameBelow 0 c.args.survey.now 
 
 pub returns-clause-words : goal.returns-clause-words
 returns-clause-words c =
-    let last : c.loop-number.number ≡ record_count c.args.survey.now = omega (arith, c.records-number-end.ensures.count) in
+    let last : c.loop-number.number ≡ record_count c.args.survey.now = omega (arith, c.records-records.ensures.count) in
     frame_ends _ _ _ _ (subst (λ (k : ℕ). IsFrameBelow k c.args.survey.now c.args.classes.now c.args.view.now c.loop-number.words) last c.loop-number.invariant)
 
 pub loop-number-preserved : goal.loop-number-preserved
@@ -23,5 +23,5 @@ loop-number-preserved c =
     let n = c.loop-number.number in
     plotted_more b c.args.classes.now view n _ c.loop-number.words c.plot_record.new.words
     (passes-any b c.args.classes.now view.filter n c.class_at.result c.requires.classes c.requires.withheld c.class_at.ensures c.class_at.type_inv)
-    (omega (arith, c.loop-number-test.true, c.records-number-end.ensures.small)) c.requires.deepest (omega arith)
+    (omega (arith, c.loop-number-test.true, c.records-records.ensures.small)) c.requires.deepest (omega arith)
     (c.plot_record.ensures ∙ ap (λ (v : View). plotted c.loop-number.words (seen v.camera (spot v.camera (point_of b n))) n) c.view.view_is) c.loop-number.invariant

@@ -19,4 +19,4 @@ returns-clause-answered g c =
     (c.as_slice.ensures ∙ c.in_ok-picture.ensures.drawn) c.give_all.ensures.given c.give_all.ensures.part
 
 pub picture-requires-clause-can_colour : goal.picture-requires-clause-can_colour
-picture-requires-clause-can_colour g c = ap (λ (v : PictureView). can_colour (format_of (arc_value c.args.scene.now.survey)) v.colouring) c.requires.by_class
+picture-requires-clause-can_colour g c = λ lives outlives. ap (λ (v : PictureView). can_colour (format_of (arc_value c.args.scene.now.survey)) v.colouring) c.requires.by_class
