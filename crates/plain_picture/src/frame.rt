@@ -107,7 +107,11 @@ fn plot_record(words: &mut [u64], survey: &Survey, camera: &Camera, number: u32)
     requires size { length words.old ≡ camera.now.width * camera.now.height }
     ensures { words.new ≡ plotted words.old (seen camera.now (spot camera.now (point_of survey.now number))) number }
 {
-    plot(words, project(camera, xyz(survey.point_bytes(number))), number);
+    plot(
+        words,
+        project(camera, xyz(survey.point_bytes(number))),
+        number,
+    );
 }
 
 /// Lowers the word of the pixel on which a record falls to the record's own, where that is less.

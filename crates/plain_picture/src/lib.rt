@@ -4,6 +4,8 @@
 
 mod filtering;
 mod frame;
+#[cfg(test)]
+mod tests;
 
 pub use filtering::passes;
 pub use frame::nearest_words;

@@ -57,7 +57,11 @@ impl Paint for ByRgb8 {
     #[inline]
     fn paint(survey: &Survey, _classes: &Classes, number: u32) -> [u8; 3] {
         let Rgb { red, green, blue } = rgb_of(survey, number);
-        [at_most_a_byte(red), at_most_a_byte(green), at_most_a_byte(blue)]
+        [
+            at_most_a_byte(red),
+            at_most_a_byte(green),
+            at_most_a_byte(blue),
+        ]
     }
 }
 

@@ -61,12 +61,7 @@ fn append_colours<P: Paint>(words: &[u64], survey: &Survey, classes: &Classes, o
 }
 
 /// Writes the three bytes of each pixel with one of these words.
-fn colour_pixels<P: Paint>(
-    colours: &mut [u8],
-    words: &[u64],
-    survey: &Survey,
-    classes: &Classes,
-)
+fn colour_pixels<P: Paint>(colours: &mut [u8], words: &[u64], survey: &Survey, classes: &Classes)
     requires can_colour { can_colour (format_of survey.now) P.colouring ≡ true }
     requires names { All (NamesOne (record_count survey.now)) words.now }
     requires records { length classes.now ≡ record_count survey.now }

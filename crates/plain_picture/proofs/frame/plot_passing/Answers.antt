@@ -27,8 +27,8 @@ loop-number-preserved c =
     let tested : c.passes.result ≡ passes b cs view.filter n = c.passes.ensures ∙ ap (λ (v : View). passes b cs v.filter n) c.view.view_is in
     elim c.if-passes.branch [
       | then-passes w ↦ plotted_more b cs view n _ c.loop-number.words _ (sym tested ∙ w.if-passes.true)
-        (omega (arith, c.loop-number-test.true, c.records-number-end.ensures.small)) c.requires.deepest (omega arith)
-        (w.words-is ∙ w.plot_record.ensures ∙ ap (λ (v : View). plotted c.loop-number.words (seen v.camera (spot v.camera (point_of b n))) n) c.view.view_is) c.loop-number.invariant
+          (omega (arith, c.loop-number-test.true, c.records-number-end.ensures.small)) c.requires.deepest (omega arith)
+          (w.words-is ∙ w.plot_record.ensures ∙ ap (λ (v : View). plotted c.loop-number.words (seen v.camera (spot v.camera (point_of b n))) n) c.view.view_is) c.loop-number.invariant
       | else-passes w ↦ subst (λ (l : List ℕ). IsFrameBelow (n + 1) b cs view l) (sym w.words-is)
-        (passed_over b cs view n _ c.loop-number.words (sym tested ∙ w.if-passes.false) (omega arith) c.loop-number.invariant)
+          (passed_over b cs view n _ c.loop-number.words (sym tested ∙ w.if-passes.false) (omega arith) c.loop-number.invariant)
     ]
