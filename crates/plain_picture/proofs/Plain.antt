@@ -1,9 +1,9 @@
 -- A frame after one more record, which passes or does not.
-use Rattle.std.proofs.Common.{◌≡◌, ℕ, suc, ◌+◌, ◌*◌, ◌-◌, ◌^◌, ◌<◌, ◌≤◌, ◌&&◌, List, get_or, length, set, take, drop, Option, Some, None, Bool, true, false, if◌then◌else◌, not, slice_index, refl, sym, ◌∙◌, ap, subst, arith}
+use Rattle.std.proofs.Common.{◌≡◌, ℕ, suc, ◌-◌, ◌^◌, ◌<◌, ◌≤◌, ◌&&◌, List, length, take, drop, Option, Some, None, Bool, true, false, if◌then◌else◌, not, slice_index, refl, sym, ◌∙◌, ap, subst, arith}
 use Rattle.std.proofs.lemmas.List.{length-set}
 use Rattle.view_base.specs.declared.place.Point.{Point}
-use Rattle.view_meaning.specs.Survey.{record_length, record_at, point_of, i32_at, withheld_of}
-use Rattle.view_meaning.specs.Classes.{Filter, has, all_classes, passes}
+use Rattle.view_meaning.specs.Survey.{record_length, record_at, point_of, i32_at}
+use Rattle.view_meaning.specs.Classes.{Filter, all_classes, passes}
 use Rattle.view_meaning.specs.Camera as meaning
 use Rattle.view_meaning.specs.Camera.{Lens, spot}
 use Rattle.view_meaning.specs.Picture.{View, is_at, is_candidate, depth_of}

@@ -1,10 +1,9 @@
-ghost use Rattle.std.specs.Prelude.{◌≡◌, length, IfOk};
+ghost use Rattle.std.specs.Prelude.{◌≡◌, length};
 ghost use Rattle.view_meaning.specs.Survey.{record_count};
 
 use crate::nearest_words;
 use class_bits::{ClassSet, Filter};
 use class_pages::{Classes, base};
-use edit_ops::{Edit, read_edit};
 use int_camera::{Camera, CameraNumbers, Kind};
 use las_survey::{Survey, load};
 use std::alloc::Global;
@@ -86,23 +85,6 @@ fn last_word(
     Ok(*words.at(1024))
 }
 
-/// The edit of a line.
-fn edit_of(line: &[u8]) -> Result<Edit, Fail> {
-    Ok(read_edit(line, 0)?)
-}
-
-/// The classes after class 2 got class 9.
-fn edited(rt: &impl Abort, alloc: Global, survey: &Survey, read: &Classes) -> Result<Classes, Fail>
-    requires { length read.now ≡ record_count survey.now }
-    ensures { IfOk result (λ made. length made ≡ record_count survey.now) }
-{
-    let edit = edit_of(b"edit 512 0 5 512 0 5 2 9")?;
-    assert!(rt; edit.to <= 31);
-    let (after, changed) = read.edited(alloc, survey, &edit)?;
-    assert_eq!(rt; changed, 1);
-    Ok(after)
-}
-
 /// Each filter has to give its word: from the first class to the last, whether withheld records
 /// are hidden, and the word.
 fn gives(
@@ -135,15 +117,5 @@ fn the_first_record_that_passes_shows(rt: HostRuntime) -> Result<(), Fail> {
         (2, 2, true, u64::MAX),
     ];
     gives(&rt, rt.alloc(), &survey, &read, as_read)?;
-    Ok(())
-}
-
-#[test]
-fn a_filter_asks_for_the_classes_that_are_given(rt: HostRuntime) -> Result<(), Fail> {
-    let survey = two_records(rt.alloc())?;
-    let read = base(rt.alloc(), &survey)?;
-    let after = edited(&rt, rt.alloc(), &survey, &read)?;
-    let as_edited: &[(u8, u8, bool, u64)] = &[(9, 9, false, FIRST), (2, 2, false, u64::MAX)];
-    gives(&rt, rt.alloc(), &survey, &after, as_edited)?;
     Ok(())
 }

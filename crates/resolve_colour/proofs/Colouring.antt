@@ -1,5 +1,5 @@
 -- Colours of records, and of words one after another.
-use Rattle.std.proofs.Common.{◌≡◌, [], ◌∷◌, ◌/◌, min, ◌<◌, ◌-◌, ◌^◌, ◌%◌, ◌==◌, ◌++◌, append_assoc, All, List, length, length-append, get_or, take, ◌+◌, slice_index, ◌∙◌, ℕ, Bool, false, Option, Some, None, IfSome, if◌then◌else◌, ap, sym, subst, arith, refl}
+use Rattle.std.proofs.Common.{◌≡◌, [], ◌∷◌, ◌/◌, min, ◌<◌, ◌-◌, ◌^◌, ◌%◌, ◌==◌, ◌++◌, append_assoc, All, List, length, length-append, get_or, take, ◌+◌, ◌∙◌, ℕ, Bool, false, Option, Some, None, IfSome, if◌then◌else◌, ap, sym, subst, arith, refl}
 use Rattle.std.proofs.Math.Seq.{take-append_seam}
 use Rattle.std.proofs.lemmas.Bool.Decides.{nat_tests}
 use Rattle.std.proofs.lemmas.List.{get_or-append-add}

@@ -1,4 +1,4 @@
-use Rattle.std.proofs.Common.{◌≡◌, ◌∙◌, ℕ, sym, ap}
+use Rattle.std.proofs.Common.{◌∙◌, ℕ, sym, ap}
 use Rattle.std.specs.Option.{option_map}
 use Rattle.view_meaning.specs.Survey.{format_of, rgb_at, rgb_place}
 use Rattle.las_points.proofs.Fields.{rgb-from_part}

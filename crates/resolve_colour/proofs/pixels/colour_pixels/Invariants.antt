@@ -1,4 +1,4 @@
-use Rattle.std.proofs.Common.{◌≡◌, ◌*◌, List, ℕ, length, take}
+use Rattle.std.proofs.Common.{◌≡◌, ◌*◌, length, take}
 use Rattle.std.specs.List.{flat_map}
 use Rattle.view_meaning.specs.Frame.{word_colour}
 use Rattle.resolve_colour.proofs.pixels.colour_pixels.Given as goal
