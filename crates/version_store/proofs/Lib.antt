@@ -1,3 +1,4 @@
 pub mod HistoryLaws
 pub mod HeldLaws
 pub mod Examples
+pub mod SharedCalls
