@@ -65,14 +65,14 @@ held-pin h by i legal last =
     let newest : length (journal after) ≡ n = ap length (journal-pin h by) in
     let one_more : pins_out after n ≡ pins_out h n + 1 = pins_out-pin h by n legal ∙ ap (λ b. pins_out h n + cond b 1 0) (eq-eqb n n refl) in
     let others : (u : ℕ) → u ≢ n → (pins_out h u ≡ pins_out after u) × (is_held h u ≡ is_held after u) = λ u other.
-        let none : eqb n u ≡ false = ne_eqb n u (λ same. other (sym same)) in
-        let pins : pins_out after u ≡ pins_out h u = omega (arith, pins_out-pin h by u legal ∙ ap (λ b. pins_out h u + cond b 1 0) none) in
-        (sym pins, ap (λ m. eqb u m || nat_lt 0 (pins_out h u)) (sym newest) ∙ ap (λ m. eqb u (length (journal after)) || nat_lt 0 m) (sym pins)) in
+    let none : eqb n u ≡ false = ne_eqb n u (λ same. other (sym same)) in
+    let pins : pins_out after u ≡ pins_out h u = omega (arith, pins_out-pin h by u legal ∙ ap (λ b. pins_out h u + cond b 1 0) none) in
+    (sym pins, ap (λ m. eqb u m || nat_lt 0 (pins_out h u)) (sym newest) ∙ ap (λ m. eqb u (length (journal after)) || nat_lt 0 m) (sym pins)) in
     let kept : is_held after n ≡ true = ap (λ v. is_held after v) (sym newest) ∙ newest_held after in
     let within : i < length (held h) = omega arith in
     let here : get_or (held h) i (0, 0) ≡ (n, pins_out h n) = held-last h i (0, 0) last in
     let at : table (pins_out after) (is_held after) 0 (n + 1) ≡ cond (is_held after n) (set (held h) i (n, pins_out after n)) (remove (held h) i) =
-        rw (held-table h) (table-set (pins_out h) (pins_out after) (is_held h) (is_held after) 0 (n + 1) i n (pins_out h n) (0, 0) others (rw (held-table h) at within) (rw (held-table h) at here)) in
+    rw (held-table h) (table-set (pins_out h) (pins_out after) (is_held h) (is_held after) 0 (n + 1) i n (pins_out h n) (0, 0) others (rw (held-table h) at within) (rw (held-table h) at here)) in
     held-table after
     ∙ ap (λ m. table (pins_out after) (is_held after) 0 (m + 1)) newest
     ∙ at
@@ -97,7 +97,7 @@ held-publish h by i edit last =
     (pins, ap (λ b. b || nat_lt 0 (pins_out after v)) other ∙ ap (λ m. nat_lt 0 m) pins)) in
     let others : (u : ℕ) → u ≢ n → (f u ≡ f u) × (is_held h u ≡ pinned u) = λ u other. (refl, ap (λ b. b || nat_lt 0 (f u)) (ne_eqb u n other)) in
     let superseded : table f pinned 0 (n + 1) ≡ cond (pinned n) (set (held h) i (n, f n)) (remove (held h) i) =
-        rw (held-table h) (table-set f f (is_held h) pinned 0 (n + 1) i n (f n) (0, 0) others (rw (held-table h) at within) (rw (held-table h) at here)) in
+    rw (held-table h) (table-set f f (is_held h) pinned 0 (n + 1) i n (f n) (0, 0) others (rw (held-table h) at within) (rw (held-table h) at here)) in
     let same : set (held h) i (n, f n) ≡ held h = ap (λ at. set (held h) i at) (sym here) ∙ set-get_or (held h) i (0, 0) in
     let gone : remove (held h) i ≡ take i (held h) = ap (λ l. take i (held h) ++ l) (drop_all (suc i) (held h) (omega arith)) ∙ append-nil (take i (held h)) in
     held-table after
@@ -115,12 +115,12 @@ held-unpin h by i v x d within is =
     let out : x ≡ pins_out h v = (held-at h i v x d within is).1 in
     let one_less : pins_out after v ≡ x - 1 = pins_out-unpin h by v v ∙ ap (λ b. pins_out h v - cond b 1 0) (eq-eqb v v refl) ∙ ap (λ m. m - 1) (sym out) in
     let others : (u : ℕ) → u ≢ v → (pins_out h u ≡ pins_out after u) × (is_held h u ≡ is_held after u) = λ u other.
-        let none : eqb v u ≡ false = ne_eqb v u (λ same. other (sym same)) in
-        let pins : pins_out after u ≡ pins_out h u = omega (arith, pins_out-unpin h by u v ∙ ap (λ b. pins_out h u - cond b 1 0) none) in
-        (sym pins, ap (λ m. eqb u m || nat_lt 0 (pins_out h u)) (sym newest) ∙ ap (λ m. eqb u (length (journal after)) || nat_lt 0 m) (sym pins)) in
+    let none : eqb v u ≡ false = ne_eqb v u (λ same. other (sym same)) in
+    let pins : pins_out after u ≡ pins_out h u = omega (arith, pins_out-unpin h by u v ∙ ap (λ b. pins_out h u - cond b 1 0) none) in
+    (sym pins, ap (λ m. eqb u m || nat_lt 0 (pins_out h u)) (sym newest) ∙ ap (λ m. eqb u (length (journal after)) || nat_lt 0 m) (sym pins)) in
     let kept : is_held after v ≡ (eqb v n || nat_lt 0 (x - 1)) = ap (λ m. eqb v m || nat_lt 0 (pins_out after v)) newest ∙ ap (λ m. eqb v n || nat_lt 0 m) one_less in
     let at : table (pins_out after) (is_held after) 0 (n + 1) ≡ cond (is_held after v) (set (held h) i (v, pins_out after v)) (remove (held h) i) =
-        rw (held-table h) (table-set (pins_out h) (pins_out after) (is_held h) (is_held after) 0 (n + 1) i v x d others (rw (held-table h) at within) (rw (held-table h) at is)) in
+    rw (held-table h) (table-set (pins_out h) (pins_out after) (is_held h) (is_held after) 0 (n + 1) i v x d others (rw (held-table h) at within) (rw (held-table h) at is)) in
     held-table after
     ∙ ap (λ m. table (pins_out after) (is_held after) 0 (m + 1)) newest
     ∙ at

@@ -69,6 +69,7 @@ table-at f p a (suc k) i v x d within is = elim (cases_Bool (p a)) as (λ _. IsR
   where
     wider : IsRow f p (a + 1) k v x → IsRow f p a (suc k) v x
     wider row = record { from = omega arith; below = omega arith; number = row.number; kept = row.kept }
+
     of_kept : p a ≡ true → ((j : ℕ) → j < length (table f p (a + 1) k) → get_or (table f p (a + 1) k) j d ≡ (v, x) → IsRow f p (a + 1) k v x)
         → (j : ℕ) → j < length ((a, f a) ∷ table f p (a + 1) k) → get_or ((a, f a) ∷ table f p (a + 1) k) j d ≡ (v, x) → IsRow f p a (suc k) v x
     of_kept kept later zero within is =
@@ -112,6 +113,7 @@ table-set f g p q a (suc k) i v x d same within is = elim (cases_Bool (p a)) as 
     past : (b : Bool) (j : ℕ) (rest : List (ℕ × ℕ)) → (a, g a) ∷ cond b (set rest j (v, g v)) (remove rest j) ≡ cond b (set ((a, g a) ∷ rest) (suc j) (v, g v)) (remove ((a, g a) ∷ rest) (suc j))
     past true j rest = refl
     past false j rest = refl
+
     of_kept : p a ≡ true
         → ((j : ℕ) → j < length (table f p (a + 1) k) → get_or (table f p (a + 1) k) j d ≡ (v, x) → table g q (a + 1) k ≡ cond (q v) (set (table f p (a + 1) k) j (v, g v)) (remove (table f p (a + 1) k) j))
         → (j : ℕ) → j < length ((a, f a) ∷ table f p (a + 1) k) → get_or ((a, f a) ∷ table f p (a + 1) k) j d ≡ (v, x)
