@@ -1,5 +1,5 @@
 -- The store of the versions of a survey's classes.
-use Rattle.std.specs.Prelude.{◌≡◌, ℕ, ◌≤◌, List, [], ◌∷◌, ◌++◌, length, map, take, All, sum_by}
+use Rattle.std.specs.Prelude.{◌≡◌, ℕ, ◌≤◌, ◌==◌, Bool, List, [], ◌∷◌, ◌++◌, length, map, take, All, sum_by}
 use Rattle.std.specs.Arc.{arc_value}
 use Rattle.view_meaning.specs.Survey.{record_count, format_of}
 use Rattle.view_meaning.specs.Classes.{Edit, classes}
@@ -27,6 +27,10 @@ with_entry s who what = record { bytes = s.bytes; history = s.history ++ (record
 -- the classes of the newest version
 abbrev pub newest : Stored → List ℕ
 newest s = classes s.bytes (journal s.history)
+
+-- whether it is this version
+abbrev pub is_version : ℕ → Held → Bool
+is_version v it = it.version == v
 
 -- a held version with its pins
 abbrev pub shown : Held → ℕ × ℕ

@@ -1,9 +1,11 @@
 ghost use Rattle.std.specs.Prelude.{◌≡◌, ◌≤◌, ◌++◌, ◌∷◌, [], length, map, All, IfOk, OnOk, OnErr};
 ghost use Rattle.std.specs.Arc.{arc_value};
 ghost use Rattle.class_pages.specs.Fitting.{EachFits};
+ghost use Rattle.std.specs.List.{position};
 ghost use Rattle.view_meaning.specs.Classes as meaning;
 ghost use Rattle.view_meaning.specs.Survey.{record_count, format_of};
 ghost use Rattle.version_store.specs.Histories.{journal, held, IsLegal, HasPinned};
+ghost use Rattle.version_store.specs.Store.{newest, with_entry, is_version, IsVersion, shown};
 ghost use Rattle.version_store.specs.declared.history.What.TheVariants as what;
 
 use crate::history::{Entry, History, What};
@@ -35,11 +37,12 @@ pub struct Store {
     alloc: Global,
     survey: Arc<Survey>,
     held: Vec<Held>,
-    history: History,
+    history: Vec<Entry>,
     out: usize,
 }
 
 impl Model for Store {
+    ghost use Rattle.std.specs.Prelude.{◌-◌, vec_capacity, vec_len};
     ghost use Rattle.std.specs.Arc.{arc_value};
     ghost use Rattle.version_store.specs.Store.{Stored, IsKept};
 
@@ -47,12 +50,10 @@ impl Model for Store {
 
     ghost view = { λ s. record { bytes = arc_value s.survey; history = s.history.items } };
 
-    ghost invariant = { λ s. IsKept (arc_value s.survey) s.history.items s.held.items s.out s.history.spare };
+    ghost invariant = { λ s. IsKept (arc_value s.survey) s.history.items s.held.items s.out (vec_capacity s.history - vec_len s.history) };
 }
 
 impl Store {
-    ghost use Rattle.version_store.specs.Store.{newest, with_entry, IsVersion, shown};
-
     /// The store of a survey whose classes are those in its file, with no entry in its history. A
     /// refusal is want of memory. One pass over the records.
     pub fn new(alloc: Global, survey: Arc<Survey>) -> Result<Store, OutOfMemory>
@@ -70,7 +71,7 @@ impl Store {
             alloc,
             survey,
             held,
-            history: History::new(alloc),
+            history: Vec::new(alloc),
             out: 0,
         })
     }
@@ -108,15 +109,16 @@ impl Store {
     {
         self.history.reserve(self.out + 1)?;
         self.held.reserve(1)?;
-        self.history.push_within(Entry {
-            who,
-            what: What::Publish(*edit),
-        });
+        let version = self.current() + 1;
+        self.history
+            .push(Entry {
+                who,
+                what: What::Publish(*edit),
+            })
+            .unwrap();
         let last = self.held.len() - 1;
-        let version = self.held[last].version + 1;
-        if self.held[last].pins == 0 {
-            self.held.truncate(last);
-        }
+        let kept = last + usize::from(self.held[last].pins > 0);
+        self.held.truncate(kept);
         self.held
             .push(Held {
                 version,
@@ -137,18 +139,21 @@ impl Store {
         ensures refused { OnErr result (self.new ≡ self.old) }
         ensures legal { IsLegal self.new.history }
     {
-        let last = self.held.len() - 1;
-        let classes = Arc::try_clone(&self.held[last].classes)?;
+        let version = self.current();
+        let classes = Arc::try_clone(self.newest())?;
         self.history.reserve(self.out + 2)?;
-        self.history.push_within(Entry {
-            who,
-            what: What::Pin,
-        });
+        self.history
+            .push(Entry {
+                who,
+                what: What::Pin,
+            })
+            .unwrap();
         self.out += 1;
+        let last = self.held.len() - 1;
         self.held[last].pins += 1;
         Ok(Pin {
             who,
-            version: self.held[last].version,
+            version,
             classes,
         })
     }
@@ -165,16 +170,20 @@ impl Store {
             version,
             classes: _,
         } = pin;
-        self.history.push_within(Entry {
-            who,
-            what: What::Unpin(version),
-        });
-        self.out -= 1;
         let current = self.current();
-        match self.held.iter().position(|held| held.version == version) {
+        match place_of(&self.held, version) {
             Some(place) => {
-                self.held[place].pins -= 1;
-                if self.held[place].pins == 0 && version != current {
+                self.history
+                    .push(Entry {
+                        who,
+                        what: What::Unpin(version),
+                    })
+                    .unwrap();
+                self.out -= 1;
+                let stays = (version == current) | (self.held[place].pins > 1);
+                if stays {
+                    self.held[place].pins -= 1;
+                } else {
                     self.held.remove(place);
                 }
             }
@@ -186,7 +195,7 @@ impl Store {
     pub fn current(&self) -> Version
         ensures { result ≡ length (journal self.now.history) }
     {
-        self.held[self.held.len() - 1].version
+        self.last().version
     }
 
     /// The versions that are held, in rising order: those with pins that are out, and the newest one.
@@ -203,7 +212,7 @@ impl Store {
         ensures history { result.items ≡ self.history }
         ensures legal { IsLegal self.history }
     {
-        self.history
+        History::from_vec(self.history)
     }
 
     /// The survey.
@@ -219,6 +228,23 @@ impl Store {
         ensures size { length (arc_value result.now) ≡ record_count self.now.bytes }
         ensures top { EachFits (format_of self.now.bytes) (arc_value result.now) }
     {
-        &self.held[self.held.len() - 1].classes
+        &self.last().classes
     }
+
+    /// The newest version, which is the last that is held.
+    fn last(&self) -> &Held
+        ensures version { result.now.version ≡ length (journal self.now.history) }
+        ensures classes { arc_value result.now.classes ≡ newest self.now }
+        ensures size { length (arc_value result.now.classes) ≡ record_count self.now.bytes }
+        ensures top { EachFits (format_of self.now.bytes) (arc_value result.now.classes) }
+    {
+        &self.held[self.held.len() - 1]
+    }
+}
+
+/// The place of a version among those that are held.
+fn place_of(held: &[Held], version: Version) -> Option<usize>
+    ensures { result ≡ position (is_version version) held.now }
+{
+    held.iter().position(|held| held.version == version)
 }
