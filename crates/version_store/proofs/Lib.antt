@@ -7,3 +7,4 @@ pub mod Keeping
 pub mod KeptAfter
 pub mod Examples
 pub mod SharedCalls
+pub mod SharedSteps

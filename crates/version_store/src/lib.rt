@@ -7,6 +7,8 @@ mod ahead;
 mod history;
 mod pin;
 mod shared;
+#[cfg(test)]
+mod shared_tests;
 mod store;
 #[cfg(test)]
 mod tests;

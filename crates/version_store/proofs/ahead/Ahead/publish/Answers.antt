@@ -1,7 +1,7 @@
 use Rattle.std.proofs.Common.{◌≡◌, ℕ, List, ap, sym, ◌∙◌}
 use Rattle.view_meaning.specs.Classes as meaning
 use Rattle.version_store.specs.Store.{newest}
-use Rattle.version_store.proofs.SharedCalls.{newest-publish}
+use Rattle.version_store.proofs.SharedSteps.{newest-publish}
 use Rattle.version_store.proofs.ahead.Ahead.publish.Goals as goal
 
 pub returns-clause-count : goal.returns-clause-count

@@ -2,7 +2,7 @@ use Rattle.std.proofs.Common.{◌≡◌, ℕ, ap, sym, ◌∙◌}
 use Rattle.turn_gate.specs.Meaning.{Passed}
 use Rattle.version_store.specs.declared.history.Entry.{Entry}
 use Rattle.version_store.specs.Sharing.{SharedStore}
-use Rattle.version_store.proofs.SharedCalls.{pin_shown}
+use Rattle.version_store.proofs.SharedSteps.{pin_shown}
 use Rattle.version_store.proofs.shared.Shared.pin.Goals as goal
 
 pub returns-clause-pin : goal.returns-clause-pin

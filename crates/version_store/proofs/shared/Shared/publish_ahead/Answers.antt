@@ -6,7 +6,7 @@ use Rattle.version_store.specs.declared.history.What.TheVariants.{Publish}
 use Rattle.version_store.specs.Histories.{journal}
 use Rattle.version_store.specs.Sharing.{SharedStore, IsAhead}
 use Rattle.version_store.specs.Store.{with_entry}
-use Rattle.version_store.proofs.SharedCalls.{IsAhead-later, gains_entry, count_shown, on_ok}
+use Rattle.version_store.proofs.SharedSteps.{IsAhead-later, gains_entry, count_shown, on_ok}
 use Rattle.version_store.proofs.shared.Shared.publish_ahead.Goals as goal
 
 pub publish-answer-requires-clause-ahead : goal.publish-answer-requires-clause-ahead

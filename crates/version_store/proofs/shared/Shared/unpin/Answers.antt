@@ -2,7 +2,8 @@ use Rattle.std.proofs.Common.{◌≡◌, ℕ, ap, refl, sym, ◌∙◌}
 use Rattle.turn_gate.specs.Meaning.{Passed, Turned}
 use Rattle.version_store.specs.declared.history.Entry.{Entry}
 use Rattle.version_store.specs.declared.history.What.TheVariants.{Unpin}
-use Rattle.version_store.proofs.SharedCalls.{HasPinned-later, gains_entry}
+use Rattle.version_store.proofs.SharedCalls.{HasPinned-later}
+use Rattle.version_store.proofs.SharedSteps.{gains_entry}
 use Rattle.version_store.proofs.shared.Shared.unpin.Goals as goal
 
 pub unpin-requires : goal.unpin-requires
