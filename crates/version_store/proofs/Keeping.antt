@@ -14,7 +14,7 @@ use Rattle.version_store.specs.declared.history.What.TheVariants.{Publish, Pin, 
 use Rattle.version_store.specs.declared.history.Entry.{Entry}
 use Rattle.version_store.specs.declared.store.Held.{Held}
 use Rattle.version_store.specs.Histories.{journal, held, pins_out, IsLegal, HasPinned}
-use Rattle.version_store.specs.Store.{is_version, shown, IsVersion, IsKept}
+use Rattle.version_store.specs.Store.{Stored, Pinned, is_version, shown, IsVersion, IsKept}
 use Rattle.version_store.proofs.HistoryLaws.{entry_by, journal-publish, journal-pin, journal-unpin, IsLegal-none, IsLegal-publish, IsLegal-pin, IsLegal-unpin}
 use Rattle.version_store.proofs.PinsOut.{pins_out-pinned}
 use Rattle.version_store.proofs.HeldPush.{held-at, held-has, length-held, held-last, held-pin, held-publish, held-unpin}
@@ -82,10 +82,28 @@ module _ (b : List ℕ) (h : List Entry) (helds : List Held) (out spare : ℕ) (
       let here : (get_or helds row.0 d).version ≡ v = ap (λ (at : ℕ × ℕ). at.0) (sym (get_or-map shown helds row.0 d (0, 0) within) ∙ ap (λ l. get_or l row.0 (0, 0)) kept.versions ∙ row.2) in
       eqb-false (get_or helds row.0 d).version v (fails_before_first (is_version v) helds row.0 d (omega (arith, within, missed (is_version v) helds none))) here
 
-  -- and pins there
+  -- so a pin is out
+  pub some_out : (who v : ℕ) → HasPinned h who v → 0 < out
+  some_out who v pinned =
+      let row = held-has h v (0, 0) (pins_out-pinned h who v kept.legal pinned) in
+      let within : row.0 < length helds = omega (arith, row.1, length-helds) in
+      let d : Held = first_of helds one_held in
+      let here : (get_or helds row.0 d).pins ≡ pins_out h v = ap (λ (at : ℕ × ℕ). at.1) (sym (get_or-map shown helds row.0 d (0, 0) within) ∙ ap (λ l. get_or l row.0 (0, 0)) kept.versions ∙ row.2) in
+      omega (arith, here, pins_out-pinned h who v kept.legal pinned, get_or-le-sum_by (λ (at : Held). at.pins) helds row.0 d within, kept.pins)
+
+  -- and its version's pins stand at its place
   pub place-pins : (who v i : ℕ) (it : Held) → HasPinned h who v → position (is_version v) helds ≡ Some i → it ≡ get_or helds i it → IsPlace helds v i it (pins_out h v)
   place-pins who v i it pinned found is =
       let at = position-Some (is_version v) helds i it found in
       let version : it.version ≡ v = ap (λ (one : Held). one.version) is ∙ eqb-true (get_or helds i it).version v at.1 in
       let pins : it.pins ≡ pins_out h it.version = (held-at h i it.version it.pins (0, 0) (omega (arith, at.0, length-helds)) (at_place i it (0, 0) at.0 is)).1 in
       record { within = at.0; version = version; pins = pins ∙ ap (pins_out h) version; some = pins_out-pinned h who v kept.legal pinned }
+
+-- what is read twice at a place
+pub same_read : (helds : List Held) (i : ℕ) (one other : Held) → i < length helds → one ≡ get_or helds i one → other ≡ get_or helds i other → one ≡ other
+same_read helds i one other within first second = first ∙ get_or_default helds i one other within ∙ sym second
+
+-- what is asked of a store and a pin is so of what is in them
+pub pinned_inside : (inside now : Stored) (own pin : Pinned) (who : ℕ) → inside ≡ now → own ≡ pin → HasPinned now.history who pin.version → HasPinned inside.history who own.version
+pinned_inside inside now own pin who store is pinned =
+    subst (λ (p : Pinned). HasPinned inside.history who p.version) (sym is) (subst (λ (s : Stored). HasPinned s.history who pin.version) (sym store) pinned)
