@@ -24,7 +24,7 @@ fn append_survey(bytes: &mut Bytes) -> Result<(), OutOfMemory> {
     bytes.append(&[0, 0, 0, 0, 0, 0, 0, 0, 5, 0, 0, 0, 0, 0, 0, 2, 0, 0, 0, 0])
 }
 
-pub(crate) fn survey(alloc: Global) -> Result<Survey, Fail> {
+fn survey(alloc: Global) -> Result<Survey, Fail> {
     let mut bytes = Bytes::new(alloc);
     append_survey(&mut bytes)?;
     Ok(load(alloc, &mut StillSource::new(bytes))?)
