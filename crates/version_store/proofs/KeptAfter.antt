@@ -4,7 +4,7 @@ use Rattle.std.specs.List.{All, position, remove, sum_by}
 use Rattle.std.specs.Arc.{arc_value}
 use Rattle.std.proofs.lemmas.Bool.{cases_Bool, cases_lt, ltb-true, ltb-false, lt-ltb, le-ltb}
 use Rattle.std.proofs.lemmas.List.{length-map, map_push, map-set, map-append, take-map, drop-map, take_all, take_more, take-append-le, length_push}
-use Rattle.std.proofs.lemmas.List.Elements.{All-push, All-set, All-take, All-drop, All-append, All-weaker}
+use Rattle.std.proofs.lemmas.List.Elements.{All-nil, All-cons, All-push, All-set, All-take, All-drop, All-append, All-weaker}
 use Rattle.std.proofs.lemmas.List.Sums.{sum_by_push, sum_by-set, sum_by-remove, sum_by_more}
 use Rattle.class_pages.specs.Fitting.{EachFits}
 use Rattle.view_meaning.specs.Survey.{record_count, format_of}
@@ -12,9 +12,9 @@ use Rattle.view_meaning.specs.Classes as meaning
 use Rattle.version_store.specs.declared.history.What.TheVariants.{Publish, Pin, Unpin}
 use Rattle.version_store.specs.declared.history.Entry.{Entry}
 use Rattle.version_store.specs.declared.store.Held.{Held}
-use Rattle.version_store.specs.Histories.{journal, held, pins_out, IsLegal, HasPinned}
+use Rattle.version_store.specs.Histories.{journal, numbered, held, pins_out, IsLegal, HasPinned}
 use Rattle.version_store.specs.Store.{is_version, shown, IsVersion, IsKept}
-use Rattle.version_store.proofs.HistoryLaws.{entry_by, journal-publish, journal-pin, journal-unpin, IsLegal-publish, IsLegal-pin, IsLegal-unpin}
+use Rattle.version_store.proofs.HistoryLaws.{entry_by, journal-publish, journal-pin, journal-unpin, IsLegal-none, IsLegal-publish, IsLegal-pin, IsLegal-unpin}
 use Rattle.version_store.proofs.HeldPush.{held-pin, held-publish, held-unpin}
 use Rattle.version_store.proofs.Keeping.{IsPlace, length-helds, version_of, at_place, newest-version, newest-pins, place-pins}
 
@@ -30,6 +30,21 @@ longer b edits more it version = record {
   size = version.size;
   top = version.top;
 }
+
+-- the version that an edit makes
+pub IsVersion-more : (b : List ℕ) (edits : List meaning.Edit) (edit : meaning.Edit) (made : Held) → made.version ≡ length edits + 1 → arc_value made.classes ≡ meaning.classes b (edits ++ edit ∷ [])
+    → length (arc_value made.classes) ≡ record_count b → EachFits (format_of b) (arc_value made.classes) → IsVersion b (edits ++ edit ∷ []) made
+IsVersion-more b edits edit made next classes size top = record {
+  known = omega (arith, next, length_push edits edit);
+  classes = classes ∙ ap (meaning.classes b) (sym (take_all made.version (edits ++ edit ∷ []) (omega (arith, next, length_push edits edit))));
+  size = size;
+  top = top;
+}
+
+-- the version of a file's own classes
+pub IsVersion-first : (b : List ℕ) (made : Held) → made.version ≡ 0 → arc_value made.classes ≡ meaning.classes b [] → length (arc_value made.classes) ≡ record_count b
+    → EachFits (format_of b) (arc_value made.classes) → IsVersion b [] made
+IsVersion-first b made first classes size top = record { known = omega arith; classes = classes ∙ ap (λ n. meaning.classes b (take n [])) (sym first); size = size; top = top }
 
 -- all but the last, and the last where it is to stay
 take_stays : {X : Type 0} (xs : List X) (i : ℕ) (stays : Bool) → suc i ≡ length xs → take (i + cond stays 1 0) xs ≡ cond stays xs (take i xs)
@@ -152,3 +167,15 @@ IsKept-unpin_last b h helds out spare i who v more it kept pinned found is gone 
     or_false : (x y : Bool) → (x || y) ≡ false → y ≡ false
     or_false true y same = absurd (cc same)
     or_false false y same = same
+
+-- the store before any entry
+pub IsKept-nil : (b : List ℕ) (spare : ℕ) (made : Held) → shown made ≡ (0, 0) → IsVersion b [] made → IsKept b [] (made ∷ []) 0 spare
+unfolding held journal numbered
+IsKept-nil b spare made row version = record {
+  legal = IsLegal-none;
+  versions = ap (λ (at : ℕ × ℕ). at ∷ []) row;
+  each = All-cons (IsVersion b []) made [] version (All-nil (IsVersion b []));
+  pins = let none : made.pins ≡ 0 = ap (λ (at : ℕ × ℕ). at.1) row in omega arith;
+  made = omega arith;
+  room = omega arith;
+}
