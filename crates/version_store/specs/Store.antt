@@ -6,7 +6,7 @@ use Rattle.view_meaning.specs.Classes.{Edit, classes}
 use Rattle.class_pages.specs.Fitting.{EachFits}
 use Rattle.version_store.specs.declared.history.What.{What}
 use Rattle.version_store.specs.declared.history.Entry.{Entry}
-use Rattle.version_store.specs.declared.store.Held.{Held}
+use Rattle.version_store.specs.declared.held.Held.{Held}
 use Rattle.version_store.specs.Histories.{journal, held, IsLegal}
 
 -- the bytes of the survey, and what happened to the versions

@@ -3,12 +3,14 @@
 //! and in which order.
 #![tactic(auto)]
 
+mod held;
 mod history;
 mod pin;
 mod store;
 #[cfg(test)]
 mod tests;
 
+pub use held::Held;
 pub use history::{Entry, History, What};
 pub use pin::Pin;
-pub use store::{Held, Store};
+pub use store::Store;

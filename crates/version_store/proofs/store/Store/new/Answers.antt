@@ -3,7 +3,7 @@ use Rattle.std.specs.Arc.{arc_value}
 use Rattle.class_pages.specs.Fitting.{EachFits}
 use Rattle.view_meaning.specs.Survey.{record_count, format_of}
 use Rattle.view_meaning.specs.Classes as meaning
-use Rattle.version_store.specs.declared.store.Held.{Held}
+use Rattle.version_store.specs.declared.held.Held.{Held}
 use Rattle.version_store.specs.Store.{IsVersion}
 use Rattle.version_store.proofs.KeptAfter.{IsVersion-first, IsKept-nil}
 use Rattle.version_store.proofs.store.Store.new.Goals as goal

@@ -18,7 +18,7 @@ overflow_add-index_mut c =
 pub invariant_of-self-2 : goal.invariant_of-self-2
 invariant_of-self-2 c =
     let last : suc (c.len-last.result - 1) ≡ length c.self.inside.held.items = omega (arith, one_held _ _ _ _ _ c.self.invariant) in
-    rw (rw (c.unwrap.ensures, c.reserve.ensures.items) at c.push.ensures.items) (IsKept-pin _ _ _ _ _ (c.len-last.result - 1) c.args.who _ c.index_mut.result.now c.self.invariant last c.index_mut.ensures.value (omega (arith, c.in_ok-reserve.ensures.ok)))
+    rw (rw c.reserve.ensures.items at c.append.ensures.items) (IsKept-pin _ _ _ _ _ (c.len-last.result - 1) c.args.who _ c.index_mut.result.now c.self.invariant last c.index_mut.ensures.value (omega (arith, c.in_ok-reserve.ensures.ok)))
 
 pub returns-clause-legal : goal.returns-clause-legal
-returns-clause-legal c = rw (rw (c.unwrap.ensures, c.reserve.ensures.items) at c.push.ensures.items) (IsLegal-pin c.args.who c.self.inside.history.items c.self.invariant.legal)
+returns-clause-legal c = rw (rw c.reserve.ensures.items at c.append.ensures.items) (IsLegal-pin c.args.who c.self.inside.history.items c.self.invariant.legal)
