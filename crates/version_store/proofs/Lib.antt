@@ -5,4 +5,5 @@ pub mod PinsOut
 pub mod HeldPush
 pub mod Keeping
 pub mod KeptAfter
+pub mod Owed
 pub mod Examples
