@@ -12,7 +12,7 @@ use Rattle.view_meaning.specs.Survey.{record_count, format_of}
 use Rattle.view_meaning.specs.Classes as meaning
 use Rattle.version_store.specs.declared.history.What.TheVariants.{Publish, Pin, Unpin}
 use Rattle.version_store.specs.declared.history.Entry.{Entry}
-use Rattle.version_store.specs.declared.store.Held.{Held}
+use Rattle.version_store.specs.declared.held.Held.{Held}
 use Rattle.version_store.specs.Histories.{journal, held, pins_out, IsLegal, HasPinned}
 use Rattle.version_store.specs.Store.{Stored, Pinned, is_version, shown, IsVersion, IsKept}
 use Rattle.version_store.proofs.HistoryLaws.{entry_by, journal-publish, journal-pin, journal-unpin, IsLegal-none, IsLegal-publish, IsLegal-pin, IsLegal-unpin}

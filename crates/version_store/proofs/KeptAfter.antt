@@ -4,17 +4,17 @@ use Rattle.std.specs.List.{All, position, remove, sum_by}
 use Rattle.std.specs.Arc.{arc_value}
 use Rattle.std.proofs.lemmas.Bool.{cases_Bool, cases_lt, ltb-true, ltb-false, lt-ltb, le-ltb}
 use Rattle.std.proofs.lemmas.List.{length-map, map_push, map-set, map-append, take-map, drop-map, take_all, take_more, take-append-le, length_push}
-use Rattle.std.proofs.lemmas.List.Elements.{All-push, All-set, All-take, All-drop, All-append, All-weaker}
+use Rattle.std.proofs.lemmas.List.Elements.{All-nil, All-cons, All-push, All-set, All-take, All-drop, All-append, All-weaker}
 use Rattle.std.proofs.lemmas.List.Sums.{sum_by_push, sum_by-set, sum_by-remove, sum_by_more}
 use Rattle.class_pages.specs.Fitting.{EachFits}
 use Rattle.view_meaning.specs.Survey.{record_count, format_of}
 use Rattle.view_meaning.specs.Classes as meaning
 use Rattle.version_store.specs.declared.history.What.TheVariants.{Publish, Pin, Unpin}
 use Rattle.version_store.specs.declared.history.Entry.{Entry}
-use Rattle.version_store.specs.declared.store.Held.{Held}
-use Rattle.version_store.specs.Histories.{journal, held, pins_out, IsLegal, HasPinned}
+use Rattle.version_store.specs.declared.held.Held.{Held}
+use Rattle.version_store.specs.Histories.{journal, numbered, held, pins_out, IsLegal, HasPinned}
 use Rattle.version_store.specs.Store.{is_version, shown, IsVersion, IsKept}
-use Rattle.version_store.proofs.HistoryLaws.{entry_by, journal-publish, journal-pin, journal-unpin, IsLegal-publish, IsLegal-pin, IsLegal-unpin}
+use Rattle.version_store.proofs.HistoryLaws.{entry_by, journal-publish, journal-pin, journal-unpin, IsLegal-none, IsLegal-publish, IsLegal-pin, IsLegal-unpin}
 use Rattle.version_store.proofs.HeldPush.{held-pin, held-publish, held-unpin}
 use Rattle.version_store.proofs.Keeping.{IsPlace, length-helds, version_of, at_place, newest-version, newest-pins, place-pins}
 
@@ -30,6 +30,21 @@ longer b edits more it version = record {
   size = version.size;
   top = version.top;
 }
+
+-- the version that an edit makes
+pub IsVersion-more : (b : List ℕ) (edits : List meaning.Edit) (edit : meaning.Edit) (made : Held) → made.version ≡ length edits + 1 → arc_value made.classes ≡ meaning.classes b (edits ++ edit ∷ [])
+    → length (arc_value made.classes) ≡ record_count b → EachFits (format_of b) (arc_value made.classes) → IsVersion b (edits ++ edit ∷ []) made
+IsVersion-more b edits edit made next classes size top = record {
+  known = omega (arith, next, length_push edits edit);
+  classes = classes ∙ ap (meaning.classes b) (sym (take_all made.version (edits ++ edit ∷ []) (omega (arith, next, length_push edits edit))));
+  size = size;
+  top = top;
+}
+
+-- the version of a file's own classes
+pub IsVersion-first : (b : List ℕ) (made : Held) → made.version ≡ 0 → arc_value made.classes ≡ meaning.classes b [] → length (arc_value made.classes) ≡ record_count b
+    → EachFits (format_of b) (arc_value made.classes) → IsVersion b [] made
+IsVersion-first b made first classes size top = record { known = omega arith; classes = classes ∙ ap (λ n. meaning.classes b (take n [])) (sym first); size = size; top = top }
 
 -- all but the last, and the last where it is to stay
 take_stays : {X : Type 0} (xs : List X) (i : ℕ) (stays : Bool) → suc i ≡ length xs → take (i + cond stays 1 0) xs ≡ cond stays xs (take i xs)
@@ -57,13 +72,13 @@ IsKept-publish b h helds out spare i by more edit it made kept last is next none
     record {
       legal = IsLegal-publish by edit h kept.legal;
       versions = map_push shown (take (i + cond stays 1 0) helds) made
-      ∙ ap (λ l. l ++ shown made ∷ []) (sym (take-map shown (i + cond stays 1 0) helds) ∙ ap (take (i + cond stays 1 0)) kept.versions ∙ take_stays (held h) i stays last_held)
-      ∙ ap (λ n. cond (nat_lt 0 n) (held h) (take i (held h)) ++ shown made ∷ []) newest
-      ∙ ap (λ (at : ℕ × ℕ). cond (nat_lt 0 (pins_out h (length (journal h)))) (held h) (take i (held h)) ++ at ∷ []) row
-      ∙ sym (held-publish h by i edit last_held);
+          ∙ ap (λ l. l ++ shown made ∷ []) (sym (take-map shown (i + cond stays 1 0) helds) ∙ ap (take (i + cond stays 1 0)) kept.versions ∙ take_stays (held h) i stays last_held)
+          ∙ ap (λ n. cond (nat_lt 0 n) (held h) (take i (held h)) ++ shown made ∷ []) newest
+          ∙ ap (λ (at : ℕ × ℕ). cond (nat_lt 0 (pins_out h (length (journal h)))) (held h) (take i (held h)) ++ at ∷ []) row
+          ∙ sym (held-publish h by i edit last_held);
       each = subst (λ edits. All (IsVersion b edits) (take (i + cond stays 1 0) helds ++ made ∷ [])) (sym (journal-publish h by edit))
-      (All-push (IsVersion b (journal h ++ edit ∷ [])) (take (i + cond stays 1 0) helds) made
-      (All-take (IsVersion b (journal h ++ edit ∷ [])) (i + cond stays 1 0) helds (All-weaker (IsVersion b (journal h)) (IsVersion b (journal h ++ edit ∷ [])) (λ at. longer b (journal h) (edit ∷ []) at) helds kept.each)) version);
+          (All-push (IsVersion b (journal h ++ edit ∷ [])) (take (i + cond stays 1 0) helds) made
+          (All-take (IsVersion b (journal h ++ edit ∷ [])) (i + cond stays 1 0) helds (All-weaker (IsVersion b (journal h)) (IsVersion b (journal h ++ edit ∷ [])) (λ at. longer b (journal h) (edit ∷ []) at) helds kept.each)) version);
       pins = omega (arith, sum_by_push (λ (at : Held). at.pins) (take (i + cond stays 1 0) helds) made, none, ap (sum_by (λ (at : Held). at.pins)) left ∙ sum_stays helds i it stays last is refl, kept.pins);
       made = omega (arith, kept.made, length_push h (entry_by by (Publish edit)));
       room = room;
@@ -80,12 +95,12 @@ IsKept-pin b h helds out spare i by more it kept last is room =
     record {
       legal = IsLegal-pin by h kept.legal;
       versions = map-set shown helds i (with_pins it (it.pins + 1))
-      ∙ ap (λ l. set l i (it.version, it.pins + 1)) kept.versions
-      ∙ ap (λ v. set (held h) i (v, it.pins + 1)) version
-      ∙ ap (λ n. set (held h) i (length (journal h), n + 1)) newest
-      ∙ sym (held-pin h by i kept.legal last_held);
+          ∙ ap (λ l. set l i (it.version, it.pins + 1)) kept.versions
+          ∙ ap (λ v. set (held h) i (v, it.pins + 1)) version
+          ∙ ap (λ n. set (held h) i (length (journal h), n + 1)) newest
+          ∙ sym (held-pin h by i kept.legal last_held);
       each = subst (λ edits. All (IsVersion b edits) (set helds i (with_pins it (it.pins + 1)))) (sym (journal-pin h by))
-      (All-set (IsVersion b (journal h)) helds i (with_pins it (it.pins + 1)) (record { known = one.known; classes = one.classes; size = one.size; top = one.top }) kept.each);
+          (All-set (IsVersion b (journal h)) helds i (with_pins it (it.pins + 1)) (record { known = one.known; classes = one.classes; size = one.size; top = one.top }) kept.each);
       pins = omega (arith, sum_by-set (λ (at : Held). at.pins) helds i (with_pins it (it.pins + 1)) it (omega arith), ap (λ (at : Held). at.pins) is, kept.pins);
       made = omega (arith, kept.made, length_push h (entry_by by Pin));
       room = room;
@@ -119,11 +134,11 @@ IsKept-unpin b h helds out spare i who v more it kept pinned found is stay room 
     record {
       legal = IsLegal-unpin who v h kept.legal pinned;
       versions = map-set shown helds i (with_pins it (it.pins - 1))
-      ∙ ap (λ l. set l i (it.version, it.pins - 1)) kept.versions
-      ∙ ap (λ u. set (held h) i (u, it.pins - 1)) place.version
-      ∙ sym (held-given b h helds out spare i who v it kept pinned found is ∙ ap (λ t. cond t (set (held h) i (v, it.pins - 1)) (remove (held h) i)) stay);
+          ∙ ap (λ l. set l i (it.version, it.pins - 1)) kept.versions
+          ∙ ap (λ u. set (held h) i (u, it.pins - 1)) place.version
+          ∙ sym (held-given b h helds out spare i who v it kept pinned found is ∙ ap (λ t. cond t (set (held h) i (v, it.pins - 1)) (remove (held h) i)) stay);
       each = subst (λ edits. All (IsVersion b edits) (set helds i (with_pins it (it.pins - 1)))) (sym (journal-unpin h who v))
-      (All-set (IsVersion b (journal h)) helds i (with_pins it (it.pins - 1)) (record { known = one.known; classes = one.classes; size = one.size; top = one.top }) kept.each);
+          (All-set (IsVersion b (journal h)) helds i (with_pins it (it.pins - 1)) (record { known = one.known; classes = one.classes; size = one.size; top = one.top }) kept.each);
       pins = omega (arith, sum_by-set (λ (at : Held). at.pins) helds i (with_pins it (it.pins - 1)) it place.within, ap (λ (at : Held). at.pins) is, place.some, place.pins, kept.pins);
       made = omega (arith, kept.made, length_push h (entry_by who (Unpin v)));
       room = omega arith;
@@ -138,12 +153,12 @@ IsKept-unpin_last b h helds out spare i who v more it kept pinned found is gone 
     record {
       legal = IsLegal-unpin who v h kept.legal pinned;
       versions = map-append shown (take i helds) (drop (suc i) helds)
-      ∙ ap (λ l. l ++ map shown (drop (suc i) helds)) (sym (take-map shown i helds))
-      ∙ ap (λ l. take i (map shown helds) ++ l) (sym (drop-map shown (suc i) helds))
-      ∙ ap (λ l. remove l i) kept.versions
-      ∙ sym (held-given b h helds out spare i who v it kept pinned found is ∙ ap (λ t. cond t (set (held h) i (v, it.pins - 1)) (remove (held h) i)) gone);
+          ∙ ap (λ l. l ++ map shown (drop (suc i) helds)) (sym (take-map shown i helds))
+          ∙ ap (λ l. take i (map shown helds) ++ l) (sym (drop-map shown (suc i) helds))
+          ∙ ap (λ l. remove l i) kept.versions
+          ∙ sym (held-given b h helds out spare i who v it kept pinned found is ∙ ap (λ t. cond t (set (held h) i (v, it.pins - 1)) (remove (held h) i)) gone);
       each = subst (λ edits. All (IsVersion b edits) (remove helds i)) (sym (journal-unpin h who v))
-      (All-append (IsVersion b (journal h)) (take i helds) (drop (suc i) helds) (All-take (IsVersion b (journal h)) i helds kept.each) (All-drop (IsVersion b (journal h)) (suc i) helds kept.each));
+          (All-append (IsVersion b (journal h)) (take i helds) (drop (suc i) helds) (All-take (IsVersion b (journal h)) i helds kept.each) (All-drop (IsVersion b (journal h)) (suc i) helds kept.each));
       pins = omega (arith, sum_by-remove (λ (at : Held). at.pins) helds i it place.within, ap (λ (at : Held). at.pins) is, one, place.some, place.pins, kept.pins);
       made = omega (arith, kept.made, length_push h (entry_by who (Unpin v)));
       room = omega arith;
@@ -152,3 +167,15 @@ IsKept-unpin_last b h helds out spare i who v more it kept pinned found is gone 
     or_false : (x y : Bool) → (x || y) ≡ false → y ≡ false
     or_false true y same = absurd (cc same)
     or_false false y same = same
+
+-- the store before any entry
+pub IsKept-nil : (b : List ℕ) (spare : ℕ) (made : Held) → shown made ≡ (0, 0) → IsVersion b [] made → IsKept b [] (made ∷ []) 0 spare
+unfolding held journal numbered
+IsKept-nil b spare made row version = record {
+  legal = IsLegal-none;
+  versions = ap (λ (at : ℕ × ℕ). at ∷ []) row;
+  each = All-cons (IsVersion b []) made [] version (All-nil (IsVersion b []));
+  pins = let none : made.pins ≡ 0 = ap (λ (at : ℕ × ℕ). at.1) row in omega arith;
+  made = omega arith;
+  room = omega arith;
+}

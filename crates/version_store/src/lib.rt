@@ -4,6 +4,7 @@
 #![tactic(auto)]
 
 mod ahead;
+mod held;
 mod history;
 mod pin;
 mod shared;
@@ -13,7 +14,8 @@ mod store;
 #[cfg(test)]
 mod tests;
 
+pub use held::Held;
 pub use history::{Entry, History, What};
 pub use pin::Pin;
 pub use shared::{Pass, Shared};
-pub use store::{Held, Store};
+pub use store::Store;

@@ -1,14 +1,14 @@
 ghost use Rattle.std.specs.Prelude.{◌≡◌, ◌≤◌, ◌++◌, ◌∷◌, [], length, map, All, IfOk, OnOk, OnErr};
 ghost use Rattle.std.specs.Arc.{arc_value};
 ghost use Rattle.class_pages.specs.Fitting.{EachFits};
-ghost use Rattle.std.specs.List.{position};
 ghost use Rattle.view_meaning.specs.Classes as meaning;
 ghost use Rattle.view_meaning.specs.Survey.{record_count, format_of};
 ghost use Rattle.version_store.specs.Histories.{journal, held, IsLegal, HasPinned};
-ghost use Rattle.version_store.specs.Store.{newest, with_entry, is_version, IsVersion, shown};
+ghost use Rattle.version_store.specs.Store.{newest, with_entry, IsVersion, shown};
 ghost use Rattle.version_store.specs.declared.history.What.TheVariants as what;
 
-use crate::history::{Entry, History, What};
+use crate::held::{Held, place_of};
+use crate::history::{Entry, History, What, append};
 use crate::pin::Pin;
 use class_pages::{Classes, base};
 use edit_ops::Edit;
@@ -17,17 +17,6 @@ use std::alloc::Global;
 use std::marker::Model;
 use std::sync::Arc;
 use view_base::{OutOfMemory, Version};
-
-/// A version that the store keeps: the newest one, or one with pins that are out.
-#[derive(Drop)]
-pub struct Held {
-    /// How many edits were published before it.
-    pub version: Version,
-    /// How many pins of it are out.
-    pub pins: u64,
-    /// The class of each record in it.
-    pub classes: Arc<Classes>,
-}
 
 /// The versions of a survey's classes. Version v has the first v published edits, and version 0 the
 /// classes in the file. Contracts see the survey's bytes and the history; the type keeps that the
@@ -110,12 +99,7 @@ impl Store {
         self.history.reserve(self.out + 1)?;
         self.held.reserve(1)?;
         let version = self.current() + 1;
-        self.history
-            .push(Entry {
-                who,
-                what: What::Publish(*edit),
-            })
-            .unwrap();
+        append(&mut self.history, who, What::Publish(*edit));
         let last = self.held.len() - 1;
         let kept = last + usize::from(self.held[last].pins > 0);
         self.held.truncate(kept);
@@ -142,12 +126,7 @@ impl Store {
         let version = self.current();
         let classes = Arc::try_clone(self.newest())?;
         self.history.reserve(self.out + 2)?;
-        self.history
-            .push(Entry {
-                who,
-                what: What::Pin,
-            })
-            .unwrap();
+        append(&mut self.history, who, What::Pin);
         self.out += 1;
         let last = self.held.len() - 1;
         self.held[last].pins += 1;
@@ -173,12 +152,7 @@ impl Store {
         let current = self.current();
         match place_of(&self.held, version) {
             Some(place) => {
-                self.history
-                    .push(Entry {
-                        who,
-                        what: What::Unpin(version),
-                    })
-                    .unwrap();
+                append(&mut self.history, who, What::Unpin(version));
                 self.out -= 1;
                 let stays = (version == current) | (self.held[place].pins > 1);
                 if stays {
@@ -240,11 +214,4 @@ impl Store {
     {
         &self.held[self.held.len() - 1]
     }
-}
-
-/// The place of a version among those that are held.
-fn place_of(held: &[Held], version: Version) -> Option<usize>
-    ensures { result ≡ position (is_version version) held.now }
-{
-    held.iter().position(|held| held.version == version)
 }

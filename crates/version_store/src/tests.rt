@@ -1,3 +1,4 @@
+//! Callers on one thread, against a list of their calls that is kept by hand.
 use crate::Store;
 use edit_ops::{Edit, read_edit};
 use las_survey::{Survey, load};
@@ -5,8 +6,14 @@ use std::alloc::Global;
 use std::process::Abort;
 use std::sync::Arc;
 use std::test::Fail;
-use view_base::{Bytes, OutOfMemory};
+use view_base::{Bytes, OutOfMemory, Version};
 use view_ends::StillSource;
+
+mod party;
+mod told;
+
+use party::Party;
+use told::Told;
 
 /// Appends a file of LAS 1.4 with one record of format 0, at (0, 0, 5) in class 2.
 fn append_survey(bytes: &mut Bytes) -> Result<(), OutOfMemory> {
@@ -24,34 +31,149 @@ fn append_survey(bytes: &mut Bytes) -> Result<(), OutOfMemory> {
     bytes.append(&[0, 0, 0, 0, 0, 0, 0, 0, 5, 0, 0, 0, 0, 0, 0, 2, 0, 0, 0, 0])
 }
 
-fn survey(alloc: Global) -> Result<Survey, Fail> {
+pub(crate) fn survey(alloc: Global) -> Result<Survey, Fail> {
     let mut bytes = Bytes::new(alloc);
     append_survey(&mut bytes)?;
     Ok(load(alloc, &mut StillSource::new(bytes))?)
 }
 
-/// The store of the survey.
+/// The store of that survey.
 fn store(alloc: Global) -> Result<Store, Fail> {
     Ok(Store::new(alloc, Arc::new(alloc, survey(alloc)?)?)?)
 }
 
-/// Publishes an edit of the record 100 times.
-fn publish_all(store: &mut Store, edit: &Edit) -> Result<(), OutOfMemory> {
-    for _ in 0..100u32 {
+/// The edit that gives the record class 6, and the one that gives it class 9.
+fn edits() -> Result<[Edit; 2], Fail> {
+    Ok([
+        read_edit(b"edit 0 0 0 9 9 9 all 6", 0)?,
+        read_edit(b"edit 0 0 0 9 9 9 all 9", 0)?,
+    ])
+}
+
+/// Publishes an edit so many times.
+fn publish_all(
+    rt: &impl Abort,
+    store: &mut Store,
+    edit: &Edit,
+    times: u32,
+) -> Result<(), OutOfMemory> {
+    assert!(rt; edit.to <= 31);
+    for _ in 0..times {
         store.publish(2, edit)?;
+    }
+    Ok(())
+}
+
+/// Whether these versions are held, each with so many pins.
+fn shows(store: &Store, wanted: &[(Version, u64)]) -> bool {
+    let held = store.held();
+    if held.len() != wanted.len() {
+        return false;
+    }
+    for i in 0..held.len() {
+        if (held[i].version, held[i].pins) != wanted[i] {
+            return false;
+        }
+    }
+    true
+}
+
+#[test]
+fn after_edits_without_pins_one_version_is_held(rt: HostRuntime) -> Result<(), Fail> {
+    let edits = edits()?;
+    let mut store = store(rt.alloc())?;
+    publish_all(&rt, &mut store, &edits[0], 1000)?;
+    assert!(rt; shows(&store, &[(1000, 0)]));
+    Ok(())
+}
+
+/// Caller 1 pins, and caller 2 publishes 100 edits.
+fn pin_and_publish(rt: &impl Abort, party: &mut Party, edit: &Edit) -> Result<(), OutOfMemory> {
+    party.pin(1)?;
+    for _ in 0..100u32 {
+        party.publish(rt, 2, edit)?;
     }
     Ok(())
 }
 
 #[test]
 fn a_pinned_version_is_held_until_it_is_given_back(rt: HostRuntime) -> Result<(), Fail> {
-    let mut store = store(rt.alloc())?;
-    let edit = read_edit(b"edit 0 0 0 9 9 9 all 6", 0)?;
-    let pin = store.pin(1)?;
-    let published = publish_all(&mut store, &edit);
-    assert_eq!(rt; store.held().len(), 2);
-    store.unpin(1, pin);
-    assert_eq!(rt; store.held().len(), 1);
-    published?;
+    let edits = edits()?;
+    let mut party = Party::of(rt.alloc(), store(rt.alloc())?);
+    let called = pin_and_publish(&rt, &mut party, &edits[0]);
+    let before = shows(&party.store, &[(0, 1), (100, 0)]);
+    party.unpin_all();
+    let after = shows(&party.store, &[(100, 0)]);
+    party.end();
+    called?;
+    assert!(rt; before);
+    assert!(rt; after);
+    Ok(())
+}
+
+/// Five callers make 1000 calls, each of which the list kept by hand agrees with.
+fn walk(
+    rt: &impl Abort,
+    party: &mut Party,
+    told: &mut Told,
+    edits: &[Edit; 2],
+) -> Result<(), OutOfMemory> {
+    let mut random = 1u32;
+    for _ in 0..1000u32 {
+        random = random.wrapping_mul(1664525).wrapping_add(1013904223);
+        step(rt, party, told, edits, random >> 8)?;
+        told.agrees(rt, &party.store);
+    }
+    Ok(())
+}
+
+/// One call, which a random number chooses.
+fn step(
+    rt: &impl Abort,
+    party: &mut Party,
+    told: &mut Told,
+    edits: &[Edit; 2],
+    random: u32,
+) -> Result<(), OutOfMemory> {
+    let who = 1 + random % 5;
+    match random / 5 % 3 {
+        0 => {
+            let edit = &edits[(random / 15 % 2) as usize];
+            let made = party.publish(rt, who, edit)?;
+            told.publish(rt, who, edit, made)
+        }
+        1 => {
+            let version = party.pin(who)?;
+            told.pin(rt, who, version)
+        }
+        _ => unpin(rt, party, told, random / 15),
+    }
+}
+
+/// Gives one of the pins back, where there is one.
+fn unpin(
+    rt: &impl Abort,
+    party: &mut Party,
+    told: &mut Told,
+    random: u32,
+) -> Result<(), OutOfMemory> {
+    if party.pins.is_empty() {
+        return Ok(());
+    }
+    let place = random as usize % party.pins.len();
+    party.unpin(place);
+    told.unpin(rt, place)
+}
+
+#[test]
+fn a_thousand_calls_of_five_callers_are_as_by_hand(rt: HostRuntime) -> Result<(), Fail> {
+    let edits = edits()?;
+    let mut told = Told::new(rt.alloc())?;
+    let mut party = Party::of(rt.alloc(), store(rt.alloc())?);
+    let walked = walk(&rt, &mut party, &mut told, &edits);
+    party.unpin_all();
+    let history = party.end();
+    walked?;
+    told.begins(&rt, &history);
     Ok(())
 }

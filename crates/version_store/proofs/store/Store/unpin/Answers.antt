@@ -7,10 +7,10 @@ use Rattle.version_store.proofs.Keeping.{place_found, place-pins, some_out, same
 use Rattle.version_store.proofs.KeptAfter.{IsKept-unpin, IsKept-unpin_last}
 use Rattle.version_store.proofs.store.Store.unpin.Goals as goal
 
-pub unwrap-requires : goal.unwrap-requires
-unwrap-requires c =
+pub append-requires : goal.append-requires
+append-requires c =
     let pinned : HasPinned c.self.inside.history.items c.args.who c.pin.inside.version = pinned_inside _ _ _ _ _ c.self.view_is c.pin.view_is c.requires.pinned in
-    c.push.ensures.succeeds (omega (arith, some_out _ _ _ _ _ c.self.invariant c.args.who c.pin.inside.version pinned))
+    omega (arith, some_out _ _ _ _ _ c.self.invariant c.args.who c.pin.inside.version pinned)
 
 pub overflow_sub-self : goal.overflow_sub-self
 overflow_sub-self c =
@@ -32,9 +32,8 @@ invariant_of-self c =
     let current : c.current-current.result ≡ length (journal c.self.inside.history.items) = c.current-current.ensures ∙ ap (λ (s : Stored). length (journal s.history)) (sym c.self.view_is) in
     let same = same_read c.self.inside.held.items c.in-Some.place c.index_mut.result.now c.index.result.now place.within c.index_mut.ensures.value c.index.ensures in
     let stay : (eqb c.pin.inside.version (length (journal c.self.inside.history.items)) || nat_lt 1 c.index_mut.result.now.pins) ≡ true =
-        ap (λ n. eqb c.pin.inside.version n || nat_lt 1 c.index_mut.result.now.pins) (sym current) ∙ ap (λ at. eqb c.pin.inside.version c.current-current.result || nat_lt 1 at.pins) same ∙ c.if-stays.true in
-    let items = rw c.unwrap.ensures at c.push.ensures.items in
-    rw items (IsKept-unpin _ _ _ _ _ c.in-Some.place c.args.who c.pin.inside.version _ c.index_mut.result.now c.self.invariant pinned found c.index_mut.ensures.value stay (omega arith))
+    ap (λ n. eqb c.pin.inside.version n || nat_lt 1 c.index_mut.result.now.pins) (sym current) ∙ ap (λ at. eqb c.pin.inside.version c.current-current.result || nat_lt 1 at.pins) same ∙ c.if-stays.true in
+    rw c.append.ensures.items (IsKept-unpin _ _ _ _ _ c.in-Some.place c.args.who c.pin.inside.version _ c.index_mut.result.now c.self.invariant pinned found c.index_mut.ensures.value stay (omega arith))
 
 pub invariant_of-self-else-stays : goal.invariant_of-self-else-stays
 invariant_of-self-else-stays c =
@@ -42,9 +41,8 @@ invariant_of-self-else-stays c =
     let found : position (is_version c.pin.inside.version) c.self.inside.held.items ≡ Some c.in-Some.place = ap (position (is_version c.pin.inside.version)) (sym c.deref.ensures.value) ∙ sym c.place_of.ensures ∙ c.in-Some.is in
     let current : c.current-current.result ≡ length (journal c.self.inside.history.items) = c.current-current.ensures ∙ ap (λ (s : Stored). length (journal s.history)) (sym c.self.view_is) in
     let gone : (eqb c.pin.inside.version (length (journal c.self.inside.history.items)) || nat_lt 1 c.index.result.now.pins) ≡ false =
-        ap (λ n. eqb c.pin.inside.version n || nat_lt 1 c.index.result.now.pins) (sym current) ∙ c.if-stays.false in
-    let items = rw c.unwrap.ensures at c.push.ensures.items in
-    rw (items, c.remove.ensures.items) (IsKept-unpin_last _ _ _ _ _ c.in-Some.place c.args.who c.pin.inside.version _ c.index.result.now c.self.invariant pinned found c.index.ensures gone (omega arith))
+    ap (λ n. eqb c.pin.inside.version n || nat_lt 1 c.index.result.now.pins) (sym current) ∙ c.if-stays.false in
+    rw (c.append.ensures.items, c.remove.ensures.items) (IsKept-unpin_last _ _ _ _ _ c.in-Some.place c.args.who c.pin.inside.version _ c.index.result.now c.self.invariant pinned found c.index.ensures gone (omega arith))
 
 pub unreachable-requires : goal.unreachable-requires
 unreachable-requires c =
@@ -55,9 +53,9 @@ unreachable-requires c =
 pub returns-then-stays-clause-legal : goal.returns-then-stays-clause-legal
 returns-then-stays-clause-legal c =
     let pinned : HasPinned c.self.inside.history.items c.args.who c.pin.inside.version = pinned_inside _ _ _ _ _ c.self.view_is c.pin.view_is c.requires.pinned in
-    rw (rw c.unwrap.ensures at c.push.ensures.items) (IsLegal-unpin c.args.who c.pin.inside.version c.self.inside.history.items c.self.invariant.legal pinned)
+    rw c.append.ensures.items (IsLegal-unpin c.args.who c.pin.inside.version c.self.inside.history.items c.self.invariant.legal pinned)
 
 pub returns-else-stays-clause-legal : goal.returns-else-stays-clause-legal
 returns-else-stays-clause-legal c =
     let pinned : HasPinned c.self.inside.history.items c.args.who c.pin.inside.version = pinned_inside _ _ _ _ _ c.self.view_is c.pin.view_is c.requires.pinned in
-    rw (rw c.unwrap.ensures at c.push.ensures.items) (IsLegal-unpin c.args.who c.pin.inside.version c.self.inside.history.items c.self.invariant.legal pinned)
+    rw c.append.ensures.items (IsLegal-unpin c.args.who c.pin.inside.version c.self.inside.history.items c.self.invariant.legal pinned)
