@@ -117,3 +117,9 @@ entries_by-refused old new before after none =
     let mine : new.mine ≡ old.mine = ap (λ (p : Passed Entry). p.mine) none.pass in
     entries_by-later old.who old.seen new.seen none.seen
     (before.own ∙ sym mine ∙ sym after.own ∙ ap (λ (n : ℕ). made_by maker n new.seen) who)
+
+-- and in the words of the call that takes the pin
+pub HasPinned-shown : (old new : Passed Entry) (v : ℕ) → IsOwn old → IsOwn new → MakesOne Pin old new → v ≡ length (journal new.seen) → HasPinned new.seen new.who v
+HasPinned-shown old new v before after made is =
+    let who : new.who ≡ old.who = ap (λ (p : Passed Entry). p.who) made.pass in
+    rw (who, is) (HasPinned-pin old new before after made)
