@@ -6,7 +6,7 @@ use Rattle.std.proofs.lemmas.List.Sums.{sum_by_push, sum_by-swap_remove, get_or-
 use Rattle.view_meaning.specs.Classes as meaning
 use Rattle.version_store.specs.declared.history.What.TheVariants.{Publish, Pin, Unpin}
 use Rattle.version_store.specs.declared.history.Entry.{Entry}
-use Rattle.version_store.specs.Histories.{journal, is_pin, is_unpin, HasPinned}
+use Rattle.version_store.specs.Histories.{journal, numbered, is_pin, is_unpin, HasPinned}
 use Rattle.version_store.specs.Store.{Pinned, IsOwed}
 use Rattle.version_store.proofs.HistoryLaws.{entry_by, pins-publish, pins-pin, pins-unpin, unpins-publish, unpins-pin, unpins-unpin}
 
@@ -31,3 +31,7 @@ pub IsOwed-unpin : (h : List Entry) (pins : List Pinned) (i : ℕ) (pin : Pinned
     → IsOwed (h ++ entry_by pin.who (Unpin pin.version) ∷ []) (swap_remove pins i pin)
 IsOwed-unpin h pins i pin owed within is who v =
     omega (arith, owed who v, ap (counts who v) is, sum_by-swap_remove (counts who v) pins i pin within, pins-unpin who v pin.who pin.version h, unpins-unpin who v pin.who pin.version h)
+
+pub IsOwed-nil : IsOwed [] []
+unfolding numbered
+IsOwed-nil who v = omega arith
