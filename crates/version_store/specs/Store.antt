@@ -53,5 +53,5 @@ pub record IsKept (b : List ℕ) (h : List Entry) (helds : List Held) (out spare
   pub room : out ≤ spare
 
 -- each of these pins was taken by its caller and not given back
-unfoldable pub IsOwed : List Entry → List Pinned → Type 0
+abbrev pub IsOwed : List Entry → List Pinned → Type 0
 IsOwed h pins = (who v : ℕ) → how_many (is_unpin v) (entries_by who (numbered 0 h)) + count_by (λ (pin : Pinned). pin.who == who && pin.version == v) pins ≤ how_many (is_pin v) (entries_by who (numbered 0 h))

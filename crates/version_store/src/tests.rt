@@ -42,12 +42,14 @@ fn store(alloc: Global) -> Result<Store, Fail> {
     Ok(Store::new(alloc, Arc::new(alloc, survey(alloc)?)?)?)
 }
 
-/// The edit that gives the record class 6, and the one that gives it class 9.
-fn edits() -> Result<[Edit; 2], Fail> {
-    Ok([
-        read_edit(b"edit 0 0 0 9 9 9 all 6", 0)?,
-        read_edit(b"edit 0 0 0 9 9 9 all 9", 0)?,
-    ])
+/// The edit that gives the record class 6.
+fn edit() -> Result<Edit, Fail> {
+    Ok(read_edit(b"edit 0 0 0 9 9 9 all 6", 0)?)
+}
+
+/// The edit that gives the record class 9.
+fn other_edit() -> Result<Edit, Fail> {
+    Ok(read_edit(b"edit 0 0 0 9 9 9 all 9", 0)?)
 }
 
 /// Publishes an edit so many times.
@@ -80,9 +82,8 @@ fn shows(store: &Store, wanted: &[(Version, u64)]) -> bool {
 
 #[test]
 fn after_edits_without_pins_one_version_is_held(rt: HostRuntime) -> Result<(), Fail> {
-    let edits = edits()?;
     let mut store = store(rt.alloc())?;
-    publish_all(&rt, &mut store, &edits[0], 1000)?;
+    publish_all(&rt, &mut store, &edit()?, 1000)?;
     assert!(rt; shows(&store, &[(1000, 0)]));
     Ok(())
 }
@@ -98,9 +99,9 @@ fn pin_and_publish(rt: &impl Abort, party: &mut Party, edit: &Edit) -> Result<()
 
 #[test]
 fn a_pinned_version_is_held_until_it_is_given_back(rt: HostRuntime) -> Result<(), Fail> {
-    let edits = edits()?;
+    let edit = edit()?;
     let mut party = Party::of(rt.alloc(), store(rt.alloc())?);
-    let called = pin_and_publish(&rt, &mut party, &edits[0]);
+    let called = pin_and_publish(&rt, &mut party, &edit);
     let before = shows(&party.store, &[(0, 1), (100, 0)]);
     party.unpin_all();
     let after = shows(&party.store, &[(100, 0)]);
@@ -112,17 +113,13 @@ fn a_pinned_version_is_held_until_it_is_given_back(rt: HostRuntime) -> Result<()
 }
 
 /// Five callers make 1000 calls, each of which the list kept by hand agrees with.
-fn walk(
-    rt: &impl Abort,
-    party: &mut Party,
-    told: &mut Told,
-    edits: &[Edit; 2],
-) -> Result<(), OutOfMemory> {
+fn walk(rt: &impl Abort, party: &mut Party, told: &mut Told) -> Result<(), OutOfMemory> {
     let mut random = 1u32;
     for _ in 0..1000u32 {
         random = random.wrapping_mul(1664525).wrapping_add(1013904223);
-        step(rt, party, told, edits, random >> 8)?;
+        step(rt, party, told, random >> 8)?;
         told.agrees(rt, &party.store);
+        told.is_current(rt, party.store.current());
     }
     Ok(())
 }
@@ -132,15 +129,14 @@ fn step(
     rt: &impl Abort,
     party: &mut Party,
     told: &mut Told,
-    edits: &[Edit; 2],
     random: u32,
 ) -> Result<(), OutOfMemory> {
     let who = 1 + random % 5;
     match random / 5 % 3 {
         0 => {
-            let edit = &edits[(random / 15 % 2) as usize];
-            let made = party.publish(rt, who, edit)?;
-            told.publish(rt, who, edit, made)
+            let edit = told.edit(random / 15);
+            let made = party.publish(rt, who, &edit)?;
+            told.publish(rt, who, &edit, made)
         }
         1 => {
             let version = party.pin(who)?;
@@ -157,20 +153,20 @@ fn unpin(
     told: &mut Told,
     random: u32,
 ) -> Result<(), OutOfMemory> {
-    if party.pins.is_empty() {
+    let pins = party.pins.len();
+    if pins == 0 {
         return Ok(());
     }
-    let place = random as usize % party.pins.len();
+    let place = random as usize % pins;
     party.unpin(place);
     told.unpin(rt, place)
 }
 
 #[test]
 fn a_thousand_calls_of_five_callers_are_as_by_hand(rt: HostRuntime) -> Result<(), Fail> {
-    let edits = edits()?;
-    let mut told = Told::new(rt.alloc())?;
+    let mut told = Told::new(rt.alloc(), edit()?, other_edit()?)?;
     let mut party = Party::of(rt.alloc(), store(rt.alloc())?);
-    let walked = walk(&rt, &mut party, &mut told, &edits);
+    let walked = walk(&rt, &mut party, &mut told);
     party.unpin_all();
     let history = party.end();
     walked?;

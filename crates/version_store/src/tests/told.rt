@@ -1,4 +1,5 @@
 use crate::{Entry, Held, History, Store, What};
+use class_pages::Classes;
 use edit_ops::Edit;
 use std::alloc::Global;
 use std::process::Abort;
@@ -7,6 +8,10 @@ use view_base::{OutOfMemory, Version};
 /// What a store's callers did, kept by hand.
 #[derive(Drop)]
 pub(crate) struct Told {
+    /// An edit that may be published.
+    edit: Edit,
+    /// Another.
+    other: Edit,
     /// The class of the one record in each version.
     classes: Vec<u8>,
     /// The pins that are out: who has each, and of which version it is.
@@ -17,12 +22,23 @@ pub(crate) struct Told {
 
 impl Told {
     /// Before any call, where the record has class 2.
-    pub(crate) fn new(alloc: Global) -> Result<Told, OutOfMemory> {
+    pub(crate) fn new(alloc: Global, edit: Edit, other: Edit) -> Result<Told, OutOfMemory> {
         Ok(Told {
+            edit,
+            other,
             classes: vec![in alloc; 2u8; 1]?,
             out: Vec::new(alloc),
             calls: Vec::new(alloc),
         })
+    }
+
+    /// One of the two edits, as the number is even or odd.
+    pub(crate) fn edit(&self, random: u32) -> Edit {
+        if random % 2 == 0 {
+            self.edit
+        } else {
+            self.other
+        }
     }
 
     /// An edit was published, with this answer.
@@ -51,8 +67,7 @@ impl Told {
         who: u32,
         version: Version,
     ) -> Result<(), OutOfMemory> {
-        assert!(rt; version < self.classes.len() as u64);
-        assert_eq!(rt; version + 1, self.classes.len() as u64);
+        self.is_current(rt, version);
         self.out.push((who, version))?;
         self.calls.push(Entry {
             who,
@@ -79,19 +94,23 @@ impl Told {
 
     /// The store holds the versions with pins and the newest one, with their classes.
     pub(crate) fn agrees(&self, rt: &impl Abort, store: &Store) {
+        let all = store.held();
         let mut place = 0;
         for version in 0..self.classes.len() {
             let pins = self.pins(version as u64);
             if pins > 0 || version + 1 == self.classes.len() {
-                assert!(rt; place < store.held().len());
-                let held = &store.held()[place];
-                assert_eq!(rt; (held.version, held.pins), (version as u64, pins));
-                assert_eq!(rt; class_in(held), Some(self.classes[version]));
+                assert!(rt; place < all.len());
+                assert!(rt; is_held(&all[place], version as u64, pins, self.classes[version]));
                 place += 1;
             }
         }
-        assert_eq!(rt; place, store.held().len());
-        assert_eq!(rt; store.current(), self.classes.len() as u64 - 1);
+        assert_eq!(rt; place, all.len());
+    }
+
+    /// This is the newest version.
+    pub(crate) fn is_current(&self, rt: &impl Abort, version: Version) {
+        assert!(rt; version < self.classes.len() as u64);
+        assert_eq!(rt; version + 1, self.classes.len() as u64);
     }
 
     /// The history begins with the calls, and has an entry of each pin given back since.
@@ -103,10 +122,10 @@ impl Told {
     }
 }
 
-/// The class of the record in a held version.
-fn class_in(held: &Held) -> Option<u8> {
-    if held.classes.len() == 0 {
-        return None;
-    }
-    Some(held.classes.class_at(0))
+/// Whether a held version has this number, so many pins and the record in this class.
+fn is_held(held: &Held, version: Version, pins: u64, class: u8) -> bool {
+    let classes: &Classes = &held.classes;
+    (held.version, held.pins) == (version, pins)
+        && classes.len() > 0
+        && classes.class_at(0) == class
 }
