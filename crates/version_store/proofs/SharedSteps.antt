@@ -41,9 +41,9 @@ count_shown (Ok made) old new who edit b seen of shown is version count =
     let bytes : new.bytes ≡ b = ap (λ (s : Stored). s.bytes) is ∙ of in
     let all : journal new.history ≡ journal old.history ++ edit ∷ [] = ap (λ (s : Stored). journal s.history) is ∙ journal-publish old.history who edit in
     let before : take (made.0 - 1) (journal seen) ≡ journal old.history =
-        ap (λ (h : List Entry). take (made.0 - 1) (journal h)) shown
-        ∙ ap (λ (l : List meaning.Edit). take (made.0 - 1) l) all
-        ∙ take_at (journal old.history) (edit ∷ []) (made.0 - 1) (omega (arith, version, ap length all, length_push (journal old.history) edit)) in
+    ap (λ (h : List Entry). take (made.0 - 1) (journal h)) shown
+    ∙ ap (λ (l : List meaning.Edit). take (made.0 - 1) l) all
+    ∙ take_at (journal old.history) (edit ∷ []) (made.0 - 1) (omega (arith, version, ap length all, length_push (journal old.history) edit)) in
     count
     ∙ ap (λ (l : List ℕ). meaning.changed (meaning.classes l (journal old.history)) (newest new)) of
     ∙ ap (λ (l : List ℕ). meaning.changed (meaning.classes b (journal old.history)) (meaning.classes l (journal new.history))) bytes
@@ -60,7 +60,7 @@ pub IsAhead-later : (b : List ℕ) (h later : List Entry) (edit : meaning.Edit) 
 IsAhead-later b h later edit ahead begins is newest_is =
     let all : journal later ≡ journal h ++ journal begins.0 = ap journal (sym begins.1) ∙ journal-append h begins.0 in
     let same : journal h ≡ journal later =
-        prefix_whole (journal h) (journal later) (journal begins.0, sym all) (omega (arith, newest_is, is.from)) in
+    prefix_whole (journal h) (journal later) (journal begins.0, sym all) (omega (arith, newest_is, is.from)) in
     subst (λ (edits : List meaning.Edit). IsAhead b edits edit ahead) same is
 
 -- what holds where a call was not refused

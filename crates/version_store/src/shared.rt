@@ -9,8 +9,8 @@ ghost use Rattle.version_store.specs.declared.history.What.TheVariants as what;
 ghost use Rattle.view_meaning.specs.Classes as meaning;
 ghost use Rattle.view_meaning.specs.Survey.{format_of, record_count};
 
-use crate::history::Entry;
 use crate::ahead::Ahead;
+use crate::history::Entry;
 use crate::pin::Pin;
 use crate::store::Store;
 use class_pages::Classes;
@@ -191,7 +191,11 @@ impl Shared {
     }
 
     /// The newest version and its classes, read in a short turn.
-    fn newest(&self, rt: &impl Wait, pass: &mut Pass) -> Result<(Version, Arc<Classes>), OutOfMemory>
+    fn newest(
+        &self,
+        rt: &impl Wait,
+        pass: &mut Pass,
+    ) -> Result<(Version, Arc<Classes>), OutOfMemory>
         requires gate { pass.old.gate ≡ self.now.name }
         requires outside { pass.old.turn ≡ None }
         ensures own { IsOwn pass.new }

@@ -29,8 +29,7 @@ struct Round {
 #[test]
 fn two_callers_publish_and_pin(rt: HostRuntime) -> Result<(), Fail> {
     let edit = read_edit(b"edit 0 0 0 9 9 9 all 6", 0)?;
-    let (shared, mut root) =
-        Shared::new(rt.alloc(), Arc::new(rt.alloc(), survey(rt.alloc())?)?)?;
+    let (shared, mut root) = Shared::new(rt.alloc(), Arc::new(rt.alloc(), survey(rt.alloc())?)?)?;
     let mut one = shared.split(&mut root);
     let mut two = shared.split(&mut root);
     let published = publish(&rt, &shared, &mut one, &edit);
@@ -98,14 +97,21 @@ fn first_class(classes: &Classes) -> u8 {
 fn four_threads_find_their_calls_in_one_history(rt: HostRuntime) -> Result<(), Fail> {
     let low = read_edit(b"edit 0 0 0 9 9 9 0-15 17", 0)?;
     let high = read_edit(b"edit 0 0 0 9 9 9 16-31 4", 0)?;
-    let (shared, mut root) =
-        Shared::new(rt.alloc(), Arc::new(rt.alloc(), survey(rt.alloc())?)?)?;
+    let (shared, mut root) = Shared::new(rt.alloc(), Arc::new(rt.alloc(), survey(rt.alloc())?)?)?;
     let mut one = shared.split(&mut root);
     let mut two = shared.split(&mut root);
     let mut three = shared.split(&mut root);
     let mut four = shared.split(&mut root);
     let ((first, second), (third, fourth)) = run_four(
-        &rt, rt.alloc(), &shared, &low, &high, &mut one, &mut two, &mut three, &mut four,
+        &rt,
+        rt.alloc(),
+        &shared,
+        &low,
+        &high,
+        &mut one,
+        &mut two,
+        &mut three,
+        &mut four,
     );
     shared.join(&mut root, one);
     shared.join(&mut root, two);

@@ -19,7 +19,7 @@ publish-answer-requires-clause-ahead g c newest_is =
 pub note-requires-clause-entry : goal.note-requires-clause-entry
 note-requires-clause-entry g c =
     let published = on_ok c.publish-answer.result (c.publish-answer.new.store ≡ with_entry c.enter-turn.result.1 c.who.result (Publish c.args.edit.now))
-        (sym c.is_ok.ensures.value ∙ c.if-is_ok.true) c.publish-answer.ensures.published in
+    (sym c.is_ok.ensures.value ∙ c.if-is_ok.true) c.publish-answer.ensures.published in
     gains_entry c.enter-turn.result.1 c.publish-answer.new.store c.who.result c.enter-turn.new.pass.who (Publish c.args.edit.now) c.enter-turn.result.0.noted
     published (ap (λ (t : Turned Entry). t.noted) c.enter-turn.ensures.turn) c.who.ensures
 

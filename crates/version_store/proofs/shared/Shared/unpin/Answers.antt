@@ -11,8 +11,8 @@ unpin-requires g c =
     let who : c.who.result ≡ c.args.pass.now.who = c.who.ensures ∙ ap (λ (p : Passed Entry). p.who) c.enter-turn.ensures.pass in
     record {
       pinned = rw who
-        (HasPinned-later c.args.pass.now.who c.args.pin.version c.args.pass.now.seen c.enter-turn.result.1.history c.args.pass.now.mine
-        c.enter-turn.ensures.seen c.enter-turn.ensures.settled.own c.enter-turn.ensures.own c.requires.pinned);
+          (HasPinned-later c.args.pass.now.who c.args.pin.version c.args.pass.now.seen c.enter-turn.result.1.history c.args.pass.now.mine
+          c.enter-turn.ensures.seen c.enter-turn.ensures.settled.own c.enter-turn.ensures.own c.requires.pinned);
     }
 
 pub note-requires-clause-entry : goal.note-requires-clause-entry
