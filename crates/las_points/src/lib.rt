@@ -7,10 +7,11 @@ mod tests;
 ghost use Rattle.std.specs.Prelude.{◌≡◌, ◌+◌, ◌≤◌, length, IfSome};
 ghost use Rattle.std.specs.Option.{option_map};
 ghost use Rattle.view_meaning.specs.Layout.{least_length};
+ghost use Rattle.view_meaning.specs.Picture.{can_colour};
 ghost use Rattle.view_meaning.specs.Survey.{u8_at, u16_at, i32_at, class_place, rgb_place, rgb_at, is_withheld};
 
 use byteorder::{ByteOrder, LittleEndian};
-use view_base::{Point, Rgb};
+use view_base::{Colouring, Point, Rgb};
 
 /// X, Y and Z of a record, in the file's integer units. Every format has them in its first 12
 /// bytes.
@@ -60,6 +61,18 @@ pub fn rgb(format: u8, rec: &[u8]) -> Option<Rgb>
     Some(rgb_from(rec, at))
 }
 
+/// Whether records of a format have what a colouring shows. Those of the formats 0, 1, 4, 6 and 9
+/// have no red, green and blue.
+pub fn can_colour(format: u8, colouring: Colouring) -> bool
+    requires { format ≤ 10 }
+    ensures { result ≡ can_colour format colouring }
+{
+    match colouring {
+        Colouring::Class | Colouring::Intensity => true,
+        Colouring::Rgb16 | Colouring::Rgb8 => rgb_place(format).is_some(),
+    }
+}
+
 /// Red, green and blue from a place on.
 #[tactic(auto, unfolding(view_meaning::specs::Survey::rgb_at))]
 fn rgb_from(rec: &[u8], at: usize) -> Rgb
@@ -73,8 +86,8 @@ fn rgb_from(rec: &[u8], at: usize) -> Rgb
     }
 }
 
-/// Where a record of a format has its red, green and blue, if it has them.
-fn rgb_place(format: u8) -> Option<usize>
+/// Where a record of a format has its red, green and blue, three numbers of 16 bits, if it has them.
+pub fn rgb_place(format: u8) -> Option<usize>
     requires { format ≤ 10 }
     ensures place { result ≡ rgb_place format }
     ensures within { IfSome result (λ at. at + 6 ≤ least_length format) }
