@@ -1,7 +1,7 @@
 -- What is held where every pin was given back.
 use Rattle.std.proofs.Common.{◌≡◌, ℕ, zero, suc, ◌+◌, ◌<◌, ◌≤◌, Bool, true, false, ◌||◌, cond, eqb, nat_lt, List, [], ◌∷◌, length, map, refl, sym, ap, inl, inr, ◌∙◌, arith}
 use Rattle.std.specs.List.{filter, range_with_len}
-use Rattle.std.proofs.lemmas.Bool.{cases_lt, ne_eqb, eq-eqb, lt-ltb, le-ltb}
+use Rattle.std.proofs.lemmas.Bool.{cases_lt, cases_eq, ne_eqb, eq-eqb, lt-ltb, le-ltb}
 use Rattle.std.proofs.lemmas.List.Elements.{filter-append}
 use Rattle.std.proofs.lemmas.List.Sums.{sum_by-cons}
 use Rattle.view_meaning.proofs.Nearest.{range_more}
@@ -64,18 +64,39 @@ all_below (at ∷ entries) =
           rw (lt-ltb at.0.who m first) (ap (λ (l : List (Entry × ℕ)). at ∷ l) rest),
     )
 
-same_below : (p q : What → ℕ → Bool) (entries : List (Entry × ℕ)) → ((who : ℕ) → how_many p (entries_by who entries) ≡ how_many q (entries_by who entries))
-    → (n : ℕ) → how_many p (below n entries) ≡ how_many q (below n entries)
-same_below p q entries same zero = rw (none_below entries) refl
-same_below p q entries same (suc n) = omega (arith, below-suc p n entries, below-suc q n entries, same n, same_below p q entries same n)
+le_below : (p q : What → ℕ → Bool) (entries : List (Entry × ℕ)) → ((who : ℕ) → how_many p (entries_by who entries) ≤ how_many q (entries_by who entries))
+    → (n : ℕ) → how_many p (below n entries) ≤ how_many q (below n entries)
+le_below p q entries less zero = rw (none_below entries) (omega arith)
+le_below p q entries less (suc n) = omega (arith, below-suc p n entries, below-suc q n entries, less n, le_below p q entries less n)
 
--- what is as many for each caller is as many for all
-pub how_many-same : (p q : What → ℕ → Bool) (entries : List (Entry × ℕ)) → ((who : ℕ) → how_many p (entries_by who entries) ≡ how_many q (entries_by who entries))
-    → how_many p entries ≡ how_many q entries
-how_many-same p q entries same =
+lt_below : (p q : What → ℕ → Bool) (entries : List (Entry × ℕ)) → ((who : ℕ) → how_many p (entries_by who entries) ≤ how_many q (entries_by who entries))
+    → (who : ℕ) → how_many p (entries_by who entries) < how_many q (entries_by who entries) → (n : ℕ) → who < n → how_many p (below n entries) < how_many q (below n entries)
+lt_below p q entries less who one zero within = absurd (omega arith)
+lt_below p q entries less who one (suc n) within = elim (cases_eq who n) as (λ _. how_many p (below (suc n) entries) < how_many q (below (suc n) entries)) [
+  | inl here ↦
+      let mine : how_many p (entries_by n entries) < how_many q (entries_by n entries) = rw here at one in
+      omega (arith, below-suc p n entries, below-suc q n entries, mine, le_below p q entries less n)
+  | inr other ↦
+      let earlier : who < n = omega arith in
+      omega (arith, below-suc p n entries, below-suc q n entries, less n, lt_below p q entries less who one n earlier)
+]
+
+-- what is no more for each caller is no more for all
+pub how_many-le : (p q : What → ℕ → Bool) (entries : List (Entry × ℕ)) → ((who : ℕ) → how_many p (entries_by who entries) ≤ how_many q (entries_by who entries))
+    → how_many p entries ≤ how_many q entries
+how_many-le p q entries less =
     let all = all_below entries in
     let whole : below all.0 entries ≡ entries = all.1 all.0 (omega arith) in
-    ap (how_many p) (sym whole) ∙ same_below p q entries same all.0 ∙ ap (how_many q) whole
+    rw whole at (le_below p q entries less all.0)
+
+-- and less for one of them is less for all
+pub how_many-lt : (p q : What → ℕ → Bool) (entries : List (Entry × ℕ)) → ((who : ℕ) → how_many p (entries_by who entries) ≤ how_many q (entries_by who entries))
+    → (who : ℕ) → how_many p (entries_by who entries) < how_many q (entries_by who entries) → how_many p entries < how_many q entries
+how_many-lt p q entries less who one =
+    let all = all_below entries in
+    let n = all.0 + suc who in
+    let whole : below n entries ≡ entries = all.1 n (omega arith) in
+    rw whole at (lt_below p q entries less who one n (omega arith))
 
 none_pass : (p : ℕ → Bool) (n : ℕ) → ((v : ℕ) → v < n → p v ≡ false) → filter p (range_with_len 0 n) ≡ []
 none_pass p zero fails = refl
@@ -95,7 +116,9 @@ one_passes p n fails passes =
 
 pub pins_out-none : (h : List Entry) (v : ℕ) → IsGivenBack h → pins_out h v ≡ 0
 unfolding IsGivenBack
-pins_out-none h v back = omega (arith, how_many-same (is_unpin v) (is_pin v) (numbered 0 h) (λ who. back who v))
+pins_out-none h v back =
+    let few : how_many (is_pin v) (numbered 0 h) ≤ how_many (is_unpin v) (numbered 0 h) = how_many-le (is_pin v) (is_unpin v) (numbered 0 h) (λ who. let same = back who v in omega arith) in
+    omega arith
 
 -- where every pin was given back, the newest version alone is held
 pub held_current : (h : List Entry) → IsGivenBack h → held h ≡ (length (journal h), 0) ∷ []

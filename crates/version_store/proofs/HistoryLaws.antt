@@ -1,5 +1,5 @@
 -- Histories over appends, and one more entry at their end.
-use Rattle.std.proofs.Common.{◌≡◌, ℕ, ◌+◌, ◌<◌, ◌≤◌, Bool, true, false, ◌&&◌, cond, eqb, List, [], ◌∷◌, ◌++◌, length, take, Some, refl, sym, ap, inl, inr, ◌∙◌, arith, length-append}
+use Rattle.std.proofs.Common.{◌≡◌, ℕ, ◌+◌, ◌<◌, ◌≤◌, Bool, true, false, ◌&&◌, cond, eqb, List, [], ◌∷◌, ◌++◌, length, take, Some, subst, refl, sym, ap, inl, inr, ◌∙◌, arith, length-append}
 use Rattle.std.specs.List.{slice_get}
 use Rattle.std.proofs.lemmas.Bool.{cases_lt, eq-eqb}
 use Rattle.std.proofs.lemmas.List.{append-nil, take-append-le, take_at, get_or_append_left, get_or_push, length_push}
@@ -11,7 +11,7 @@ use Rattle.view_meaning.specs.Classes as meaning
 use Rattle.version_store.specs.declared.history.What.{What}
 use Rattle.version_store.specs.declared.history.What.TheVariants.{Publish, Pin, Unpin}
 use Rattle.version_store.specs.declared.history.Entry.{Entry}
-use Rattle.version_store.specs.Histories.{edit_in, journal, numbered, entries_by, is_pin, is_unpin, how_many, IsLegal, IsGivenBack}
+use Rattle.version_store.specs.Histories.{edit_in, journal, numbered, entries_by, is_pin, is_unpin, how_many, HasPinned, IsLegal, IsGivenBack}
 
 pub journal-append : (h more : List Entry) → journal (h ++ more) ≡ journal h ++ journal more
 unfolding journal
@@ -147,18 +147,23 @@ IsGivenBack-shown by n h is back who v =
     ∙ sym (pins-pin who v by h)
     ∙ sym (pins-unpin who v by n pin)
 
+pub IsLegal-pin : (by : ℕ) (h : List Entry) → IsLegal h → IsLegal (h ++ entry_by by Pin ∷ [])
+IsLegal-pin by h legal = IsLegal-push h (entry_by by Pin) legal (λ who v is. let other : Pin ≡ Unpin v = ap (λ (entry : Entry). entry.what) is in absurd (cc))
+
+pub IsLegal-unpin : (by n : ℕ) (h : List Entry) → IsLegal h → HasPinned h by n → IsLegal (h ++ entry_by by (Unpin n) ∷ [])
+IsLegal-unpin by n h legal pinned =
+    IsLegal-push h (entry_by by (Unpin n)) legal
+    (λ who v is.
+    let caller : by ≡ who = ap (λ (entry : Entry). entry.who) is in
+    let what : Unpin n ≡ Unpin v = ap (λ (entry : Entry). entry.what) is in
+    let version : n ≡ v = cc in
+    subst (λ u. HasPinned h who u) version (subst (λ w. HasPinned h w n) caller pinned))
+
 pub IsLegal-shown : (by n : ℕ) (h : List Entry) → n ≡ length (journal h) → IsGivenBack h → IsLegal h → IsLegal ((h ++ entry_by by Pin ∷ []) ++ entry_by by (Unpin n) ∷ [])
 unfolding IsGivenBack
 IsLegal-shown by n h is back legal =
-    let pin = h ++ entry_by by Pin ∷ [] in
-    let held : IsLegal pin = IsLegal-push h (entry_by by Pin) legal (λ who v is. let other : Pin ≡ Unpin v = ap (λ (entry : Entry). entry.what) is in absurd (cc)) in
-    IsLegal-push pin (entry_by by (Unpin n)) held
-    (λ who v is_that.
-    let caller : by ≡ who = ap (λ (entry : Entry). entry.who) is_that in
-    let what : Unpin n ≡ Unpin v = ap (λ (entry : Entry). entry.what) is_that in
-    let version : n ≡ v = cc in
-    let one : once by (length (journal h)) who v ≡ 1 = rw (eq-eqb by who caller, eq-eqb (length (journal h)) v (sym is ∙ version)) refl in
-    omega (arith, one, pins-pin who v by h, unpins-pin who v by h, back who v))
+    let one : once by (length (journal h)) by n ≡ 1 = rw (eq-eqb by by refl, eq-eqb (length (journal h)) n (sym is)) refl in
+    IsLegal-unpin by n (h ++ entry_by by Pin ∷ []) (IsLegal-pin by h legal) (omega (arith, one, pins-pin by n by h, unpins-pin by n by h, back by n))
 
 pub IsLegal-none : IsLegal []
 unfolding IsLegal

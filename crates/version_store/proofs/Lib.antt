@@ -1,3 +1,11 @@
 pub mod HistoryLaws
 pub mod HeldLaws
+pub mod Tables
+pub mod PinsOut
+pub mod HeldPush
+pub mod Keeping
+pub mod KeptAfter
+pub mod Owed
 pub mod Examples
+pub mod SharedCalls
+pub mod SharedSteps

@@ -38,10 +38,13 @@ is_unpin v _ n = false
 abbrev pub how_many : (What → ℕ → Bool) → List (Entry × ℕ) → ℕ
 how_many test entries = count_by (λ (at : Entry × ℕ). test at.0.what at.1) entries
 
+-- a caller has pinned version v more often than given it back
+abbrev pub HasPinned : List Entry → ℕ → ℕ → Type 0
+HasPinned h who v = how_many (is_unpin v) (entries_by who (numbered 0 h)) < how_many (is_pin v) (entries_by who (numbered 0 h))
+
 -- in a legal history a caller gives back only what it has pinned and not given back before
 unfoldable pub IsLegal : List Entry → Type 0
-IsLegal h = (k who v : ℕ) → slice_get h k ≡ Some (record { who = who; what = Unpin v })
-    → how_many (is_unpin v) (entries_by who (numbered 0 (take k h))) < how_many (is_pin v) (entries_by who (numbered 0 (take k h)))
+IsLegal h = (k who v : ℕ) → slice_get h k ≡ Some (record { who = who; what = Unpin v }) → HasPinned (take k h) who v
 
 -- every caller gave each of its pins back
 unfoldable pub IsGivenBack : List Entry → Type 0

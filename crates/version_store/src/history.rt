@@ -1,3 +1,5 @@
+ghost use Rattle.std.specs.Prelude.{◌≡◌, ◌+◌, ◌<◌, ◌≤◌, ◌++◌, ◌∷◌, [], vec_len, vec_capacity};
+
 use edit_ops::Edit;
 use view_base::{Listing, Version};
 
@@ -23,3 +25,13 @@ pub struct Entry {
 
 /// What happened to the versions, in order. Version v has the first v published edits.
 pub type History = Listing<Entry>;
+
+/// Appends an entry, for which there is room.
+pub(crate) fn append(history: &mut Vec<Entry>, who: u32, what: What)
+    requires room { vec_len history.old < vec_capacity history.old }
+    ensures items { history.new.items ≡ history.old.items ++ (record { who = who; what = what }) ∷ [] }
+    ensures len { vec_len history.new ≡ vec_len history.old + 1 }
+    ensures capacity { vec_capacity history.old ≤ vec_capacity history.new }
+{
+    history.push(Entry { who, what }).unwrap();
+}

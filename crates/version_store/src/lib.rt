@@ -1,7 +1,21 @@
-//! The history of the versions of a survey's classes: which edits were published, and which versions
-//! were pinned and given back, by whom and in which order.
+//! The versions of a survey's classes: a store that publishes edits and pins versions, and the history
+//! that it keeps of which edits were published, and which versions were pinned and given back, by whom
+//! and in which order.
 #![tactic(auto)]
 
+mod ahead;
+mod held;
 mod history;
+mod pin;
+mod shared;
+#[cfg(test)]
+mod shared_tests;
+mod store;
+#[cfg(test)]
+mod tests;
 
+pub use held::Held;
 pub use history::{Entry, History, What};
+pub use pin::Pin;
+pub use shared::{Pass, Shared};
+pub use store::Store;

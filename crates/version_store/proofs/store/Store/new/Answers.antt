@@ -1,0 +1,16 @@
+use Rattle.std.proofs.Common.{◌≡◌, ◌≤◌, List, [], length, subst, refl, sym, ap, ◌∙◌}
+use Rattle.std.specs.Arc.{arc_value}
+use Rattle.class_pages.specs.Fitting.{EachFits}
+use Rattle.view_meaning.specs.Survey.{record_count, format_of}
+use Rattle.view_meaning.specs.Classes as meaning
+use Rattle.version_store.specs.declared.held.Held.{Held}
+use Rattle.version_store.specs.Store.{IsVersion}
+use Rattle.version_store.proofs.KeptAfter.{IsVersion-first, IsKept-nil}
+use Rattle.version_store.proofs.store.Store.new.Goals as goal
+
+pub invariant_of-result : goal.invariant_of-result
+invariant_of-result c =
+    let made : Held = record { version = 0; pins = 0; classes = c.in_ok-classes.classes } in
+    let version : IsVersion c.deref.result.now [] made = IsVersion-first c.deref.result.now made refl (c.in_ok-classes.ensures.ok ∙ c.in_ok-base.ensures.classes)
+    (ap length c.in_ok-classes.ensures.ok ∙ c.in_ok-base.ensures.size) (subst (EachFits (format_of c.deref.result.now)) (sym c.in_ok-classes.ensures.ok) c.in_ok-base.ensures.top) in
+    rw (c.new-2.ensures.items, rw (c.unwrap.ensures, c.in_ok-held.ensures.items) at c.push.ensures.items) (IsKept-nil _ _ made refl (subst (λ b. IsVersion b [] made) c.deref.ensures version))
