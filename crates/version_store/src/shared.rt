@@ -118,7 +118,8 @@ impl Shared {
         ensures own { IsOwn pass.new }
         ensures made { OnOk result (MakesOne (what.Publish edit.now) pass.old pass.new) }
         ensures version { IfOk result (λ made. made.0 ≡ length (journal pass.new.seen)) }
-        ensures count { IfOk result (λ made. made.1 ≡ meaning.changed (meaning.classes self.now.bytes (take (made.0 - 1) (journal pass.new.seen))) (meaning.classes self.now.bytes (journal pass.new.seen))) }
+        ensures count { IfOk result (λ made. made.1 ≡ meaning.changed (meaning.classes self.now.bytes (take (made.0 - 1) (journal pass.new.seen)))
+            (meaning.classes self.now.bytes (journal pass.new.seen))) }
         ensures refused { OnErr result (MakesNone pass.old pass.new) }
     {
         let (from, classes) = self.newest(rt, pass)?;
@@ -227,7 +228,8 @@ impl Shared {
         ensures own { IsOwn pass.new }
         ensures made { OnOk result (MakesOne (what.Publish edit.now) pass.old pass.new) }
         ensures version { IfOk result (λ made. made.0 ≡ length (journal pass.new.seen)) }
-        ensures count { IfOk result (λ made. made.1 ≡ meaning.changed (meaning.classes self.now.bytes (take (made.0 - 1) (journal pass.new.seen))) (meaning.classes self.now.bytes (journal pass.new.seen))) }
+        ensures count { IfOk result (λ made. made.1 ≡ meaning.changed (meaning.classes self.now.bytes (take (made.0 - 1) (journal pass.new.seen)))
+            (meaning.classes self.now.bytes (journal pass.new.seen))) }
         ensures refused { OnErr result (MakesNone pass.old pass.new) }
     {
         let (mut turn, mut store) = self.gate.enter(rt, pass);
