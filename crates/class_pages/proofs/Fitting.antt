@@ -1,13 +1,15 @@
 -- Classes that a format has room for, record by record and after an edit.
-use Rattle.std.proofs.Common.{◌≡◌, ◌≢◌, ℕ, suc, ◌<◌, ◌≤◌, Bool, true, false, if◌then◌else◌, List, length, get_or, set, map, inl, inr, sym, ◌∙◌, ap, subst, arith}
+use Rattle.std.proofs.Common.{◌≡◌, ◌≢◌, ℕ, suc, ◌+◌, ◌-◌, ◌*◌, ◌<◌, ◌≤◌, Bool, true, false, if◌then◌else◌, List, length, get_or, set, map, inl, inr, sym, ◌∙◌, ap, subst, arith}
 use Rattle.std.proofs.lemmas.Bool.{cases_lt}
-use Rattle.std.proofs.lemmas.List.{get_or_default, get_or-set_same, get_or-set_other}
+use Rattle.std.proofs.lemmas.List.{get_or_default, get_or_past, get_or-set_same, get_or-set_other}
 use Rattle.std.proofs.lemmas.List.FromFn.{get_or-map-range_with_len, length-map-range_with_len}
 use Rattle.std.specs.List.{range_with_len}
 use Rattle.view_meaning.specs.Survey.{record_count, point_of}
 use Rattle.view_meaning.specs.Classes.{Edit, applies, class_after, class_at, classes, top_class}
 use Rattle.class_pages.specs.AfterEdit.{after_edit}
 use Rattle.class_pages.specs.Fitting.{EachFits}
+use Rattle.class_pages.specs.Pages.{page_of}
+use Rattle.class_pages.proofs.Pages.{get_or-page_of, length-page_of}
 
 -- the first i classes are at most the format's greatest
 abbrev pub FitsBelow : ℕ → ℕ → List ℕ → Type 0
@@ -24,6 +26,23 @@ fits_more i j format known class cs next within same small h = λ k lt. elim (ca
       let is : get_or (set cs i class) k 0 ≡ class = ap (λ (k : ℕ). get_or (set cs i class) k 0) here ∙ get_or-set_same cs i class 0 within in
       subst (λ (n : ℕ). n ≤ top_class format) (sym is) (subst (λ (n : ℕ). class ≤ top_class n) same small)
 ]
+
+-- one more page
+pub fits_page : (k n format : ℕ) (cs page : List ℕ) → n ≡ suc k → page ≡ page_of cs k → EachFits format page → FitsBelow (k * 4096) format cs → FitsBelow (n * 4096) format cs
+fits_page k n format cs page next is fits h = λ i lt. elim (cases_lt i (k * 4096)) [
+  | inl below ↦ h i below
+  | inr over ↦
+      let place : k * 4096 + (i - k * 4096) ≡ i = omega (arith, over) in
+      let within : i - k * 4096 < 4096 = omega (arith, lt, next, over) in
+      let here : get_or page (i - k * 4096) 0 ≡ get_or cs i 0 = ap (λ (l : List ℕ). get_or l (i - k * 4096) 0) is ∙ get_or-page_of cs k (i - k * 4096) 0 within ∙ ap (λ (m : ℕ). get_or cs m 0) place in
+      subst (λ (c : ℕ). c ≤ top_class format) here (one (i - k * 4096))
+]
+  where
+    one : (j : ℕ) → get_or page j 0 ≤ top_class format
+    one j = elim (cases_lt j (length page)) [
+      | inl inside ↦ fits j 0 inside
+      | inr past ↦ let none : get_or page j 0 ≡ 0 = get_or_past page j 0 past in omega (arith, none)
+    ]
 
 -- all classes
 pub fits_all : (n format : ℕ) (cs : List ℕ) → length cs ≤ n → FitsBelow n format cs → EachFits format cs

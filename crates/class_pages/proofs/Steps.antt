@@ -1,8 +1,8 @@
 -- Classes record by record.
-use Rattle.std.proofs.Common.{◌≡◌, ◌≢◌, ℕ, zero, suc, take, drop, ◌+◌, ◌<◌, ◌≤◌, ◌==◌, not, Bool, cond, List, [], ◌∷◌, ◌++◌, length, get_or, set, map, inl, inr, refl, sym, ◌∙◌, ap, arith, count_by}
+use Rattle.std.proofs.Common.{◌≡◌, ◌≢◌, ℕ, zero, suc, take, drop, ◌+◌, ◌<◌, ◌≤◌, ◌==◌, not, Bool, false, cond, List, [], ◌∷◌, ◌++◌, length, get_or, set, map, inl, inr, refl, sym, ◌∙◌, ap, arith, count_by}
 use Rattle.std.proofs.lemmas.Bool.{cases_lt}
 use Rattle.std.proofs.lemmas.Bool.Decides.{nat_tests}
-use Rattle.std.proofs.lemmas.List.{ext_get_or, length-set, get_or-set_same, get_or-set_other, get_or-take, get_or-drop}
+use Rattle.std.proofs.lemmas.List.{ext_get_or, length-set, get_or-set_same, get_or-set_other, get_or-take, get_or-drop, length-take, length-drop}
 use Rattle.std.proofs.lemmas.List.FromFn.{get_or-map-range_with_len, length-map-range_with_len}
 use Rattle.std.proofs.lemmas.List.Sums.{sum_by-append, fold-append}
 use Rattle.std.specs.List.{range_with_len}
@@ -10,7 +10,8 @@ use mir.Val.{bool_byte}
 use Rattle.view_meaning.specs.Survey.{record_count, record_length, record_at, format_of, class_place, class_byte, u8_at, point_of}
 use Rattle.view_meaning.specs.Classes.{Edit, class_of, class_after, class_at, classes, changed}
 use Rattle.view_meaning.proofs.Nearest.{range_more}
-use Rattle.class_pages.specs.AfterEdit.{after_edit}
+use Rattle.view_base.specs.declared.place.Point.{Point}
+use Rattle.class_pages.specs.AfterEdit.{after_edit, IsSame}
 
 -- the first i items are those of f, the others are as they were
 pub record IsMadeBelow (i : ℕ) (f : ℕ → ℕ) (old new : List ℕ) : Type 0 where
@@ -44,7 +45,7 @@ made_all n f old new size h =
 abbrev pub count_below : ℕ → (ℕ → ℕ) → List ℕ → ℕ
 count_below i f old = count_by (λ k. not (get_or old k 0 == f k)) (range_with_len 0 i)
 
-counts_more : (a n m : ℕ) (p : ℕ → Bool) → a + n ≡ m → count_by p (range_with_len a (suc n)) ≡ count_by p (range_with_len a n) + cond (p m) 1 0
+pub counts_more : (a n m : ℕ) (p : ℕ → Bool) → a + n ≡ m → count_by p (range_with_len a (suc n)) ≡ count_by p (range_with_len a n) + cond (p m) 1 0
 counts_more a n m p last =
     ap (count_by p) (range_more a n m last) ∙ sum_by-append (λ k. cond (p k) 1 0) (range_with_len a n) (m ∷ []) ∙ omega arith
 
@@ -75,10 +76,18 @@ class_read b i format place value bytes known at least taken read =
     place_within : (format size : ℕ) → 20 ≤ size → class_place format < size
     place_within format size least = grind (arith, nat_tests)
 
--- the classes that the bytes give are those of the file
-pub classes_read : (b cs : List ℕ) → cs ≡ map (λ i. class_of (format_of b) (class_byte b i)) (range_with_len 0 (record_count b)) → cs ≡ classes b []
+-- the classes that the bytes of some records give are those of the file
+pub classes_run : (b old cs : List ℕ) (first n : ℕ) → length old ≡ n → first + n ≤ record_count b → IsMadeBelow n (λ k. class_of (format_of b) (class_byte b (first + k))) old cs → cs ≡ take n (drop first (classes b []))
 unfolding classes class_at
-classes_read b cs read = read
+classes_run b old cs first n size within h =
+    let all = map (class_at b []) (range_with_len 0 (record_count b)) in
+    let long : length all ≡ record_count b = length-map-range_with_len (class_at b []) 0 (record_count b) in
+    let run : length (take n (drop first all)) ≡ n = length-take n (drop first all) ∙ omega (arith, long, within, length-drop first all) in
+    ext_get_or 0 cs (take n (drop first all)) (h.size ∙ size ∙ sym run) (λ i lt.
+        let inside : i < n = omega (arith, lt, h.size, size) in
+        h.made i inside
+        ∙ sym (get_or-map-range_with_len (class_at b []) 0 (record_count b) (first + i) (first + i) 0 (omega (arith, inside, within)) (omega arith))
+        ∙ sym (get_or-drop first all i 0) ∙ sym (get_or-take n (drop first all) i 0 inside))
 
 -- the classes after an edit are those after one more edit of the list
 pub after_edit-classes : (b : List ℕ) (edits : List Edit) (e : Edit) → after_edit b (classes b edits) e ≡ classes b (edits ++ e ∷ [])
@@ -96,7 +105,7 @@ after_edit-classes b edits e =
     ∙ sym (fold-append (class_after (point_of b i)) _ edits (e ∷ []))
     ∙ sym (get_or-map-range_with_len (class_at b (edits ++ e ∷ [])) 0 n i i 0 within (omega arith)))
 
-counts_same : (a n : ℕ) (p q : ℕ → Bool) → ((k : ℕ) → a ≤ k → k < a + n → p k ≡ q k) → count_by p (range_with_len a n) ≡ count_by q (range_with_len a n)
+pub counts_same : (a n : ℕ) (p q : ℕ → Bool) → ((k : ℕ) → a ≤ k → k < a + n → p k ≡ q k) → count_by p (range_with_len a n) ≡ count_by q (range_with_len a n)
 counts_same a zero p q same = refl
 counts_same a (suc n) p q same =
     counts_more a n (a + n) p refl
@@ -105,10 +114,32 @@ counts_same a (suc n) p q same =
     ∙ sym (counts_more a n (a + n) q refl)
 
 -- counted record by record, as many classes changed as differ
-pub changed_counted : (b old new : List ℕ) (e : Edit) (n : ℕ) → length old ≡ n → IsMadeBelow n (λ k. class_after (point_of b k) (get_or old k 0) e) old new
-    → count_below n (λ k. class_after (point_of b k) (get_or old k 0) e) old ≡ changed old new
+pub changed_counted : (f : ℕ → ℕ) (old new : List ℕ) (n count : ℕ) → length old ≡ n → IsMadeBelow n f old new → count ≡ count_below n f old → count ≡ changed old new
 unfolding changed
-changed_counted b old new e n size h =
-    counts_same 0 n (λ k. not (get_or old k 0 == class_after (point_of b k) (get_or old k 0) e)) (λ k. not (get_or old k 0 == get_or new k 0))
+changed_counted f old new n count size h counted =
+    counted
+    ∙ counts_same 0 n (λ k. not (get_or old k 0 == f k)) (λ k. not (get_or old k 0 == get_or new k 0))
     (λ k low lt. ap (λ (v : ℕ). not (get_or old k 0 == v)) (sym (h.made k (omega (arith, lt)))))
     ∙ ap (λ (k : ℕ). count_by (λ i. not (get_or old i 0 == get_or new i 0)) (range_with_len 0 k)) (sym size)
+
+-- where f changes none of the first items, they are as f makes them
+pub made_same : (n : ℕ) (f : ℕ → ℕ) (old : List ℕ) → ((k : ℕ) → k < n → f k ≡ get_or old k 0) → IsMadeBelow n f old old
+made_same n f old same = record { size = refl; made = λ k lt. sym (same k lt); left = λ k le. refl }
+
+-- and none of them is counted
+pub counted_same : (n : ℕ) (f : ℕ → ℕ) (old : List ℕ) → ((k : ℕ) → k < n → f k ≡ get_or old k 0) → 0 ≡ count_below n f old
+counted_same n f old same = sym (counts_same 0 n (λ k. not (get_or old k 0 == f k)) (λ k. false) (λ k low lt. one (f k) (get_or old k 0) (same k (omega (arith, lt)))) ∙ none 0 n)
+  where
+    one : (v w : ℕ) → v ≡ w → not (w == v) ≡ false
+    one v w is = grind (arith, nat_tests)
+    none : (a n : ℕ) → count_by (λ k. false) (range_with_len a n) ≡ 0
+    none a zero = refl
+    none a (suc n) = none (a + 1) n
+
+-- one more class that an edit does not change
+pub same_more : (b cs : List ℕ) (e : Edit) (first i j v : ℕ) (p : Point) → j ≡ suc i → p ≡ point_of b (first + i) → v ≡ class_after p (get_or cs i 0) e → v ≡ get_or cs i 0 → IsSame b first e i cs → IsSame b first e j cs
+same_more b cs e first i j v p next is after stays h = λ k lt. elim (cases_lt k i) [
+  | inl below ↦ h k below
+  | inr over ↦ let here : i ≡ k = omega (arith, lt, next, over) in
+      ap (λ (k : ℕ). class_after (point_of b (first + k)) (get_or cs k 0) e) (sym here) ∙ ap (λ q. class_after q (get_or cs i 0) e) (sym is) ∙ sym after ∙ stays ∙ ap (λ (k : ℕ). get_or cs k 0) here
+]

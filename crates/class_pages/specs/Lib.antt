@@ -1,2 +1,4 @@
 pub mod AfterEdit
+pub mod Boxes
 pub mod Fitting
+pub mod Pages

@@ -1,8 +1,13 @@
-//! The classes of a survey's records: those in its file, and those after an edit.
+//! The classes of a survey's records: those in its file, and those after an edit. They stand in
+//! pages, and versions share the pages in which no class differs.
 #![tactic(auto)]
 
+mod boxes;
 mod classes;
+mod page;
 #[cfg(test)]
 mod tests;
 
+pub use boxes::{PageBoxes, page_boxes};
 pub use classes::{Classes, base};
+pub use page::{PAGE, Page};
