@@ -1,6 +1,7 @@
 -- Classes that a format has room for, record by record and after an edit.
-use Rattle.std.proofs.Common.{◌≡◌, ◌≢◌, ℕ, suc, ◌+◌, ◌-◌, ◌*◌, ◌<◌, ◌≤◌, Bool, true, false, if◌then◌else◌, List, length, get_or, set, map, inl, inr, sym, ◌∙◌, ap, subst, arith}
+use Rattle.std.proofs.Common.{◌≡◌, ◌≢◌, ℕ, suc, ◌+◌, ◌-◌, ◌*◌, ◌<◌, ◌≤◌, Bool, true, false, if◌then◌else◌, List, length, get_or, set, map, inl, inr, sym, ◌∙◌, ap, subst, arith, All}
 use Rattle.std.proofs.lemmas.Bool.{cases_lt}
+use Rattle.std.proofs.lemmas.Bool.Decides.{nat_tests}
 use Rattle.std.proofs.lemmas.List.{get_or_default, get_or_past, get_or-set_same, get_or-set_other}
 use Rattle.std.proofs.lemmas.List.FromFn.{get_or-map-range_with_len, length-map-range_with_len}
 use Rattle.std.specs.List.{range_with_len}
@@ -60,6 +61,18 @@ after_edit-fits b cs e format room fits = λ k d lt.
     let within : k < length cs = let size : length (map each (range_with_len 0 (length cs))) ≡ length cs = length-map-range_with_len each 0 (length cs) in omega (arith, lt, size) in
     subst (λ (c : ℕ). c ≤ top_class format) (sym (get_or-map-range_with_len each 0 (length cs) k k d within (omega arith)))
     (one_of (applies e (point_of b k) (get_or cs k 0)) e.to (get_or cs k 0) (top_class format) room (fits k 0 within))
+
+-- classes that a format has room for are bytes
+top_byte : (format : ℕ) → top_class format < 256
+top_byte format = grind (arith, nat_tests)
+
+pub fits-bytes : (format : ℕ) (cs : List ℕ) → EachFits format cs → All (λ class. class < 256) cs
+fits-bytes format cs fits = λ k d lt. let small : get_or cs k d ≤ top_class format = fits k d lt in omega (arith, small, top_byte format)
+
+-- an edit gives no class that is not a byte
+pub after_edit-bytes : (b cs : List ℕ) (e : Edit) (format : ℕ) → e.to ≤ top_class format → All (λ class. class < 256) cs → All (λ class. class < 256) (after_edit b cs e)
+after_edit-bytes b cs e format room bytes =
+    fits-bytes 6 (after_edit b cs e) (after_edit-fits b cs e 6 (omega (arith, room, top_byte format)) (λ k d lt. let small : get_or cs k d < 256 = bytes k d lt in omega (arith, small)))
 
 -- a survey has as many classes as records
 pub length-classes : (b : List ℕ) (edits : List Edit) → length (classes b edits) ≡ record_count b

@@ -1,10 +1,11 @@
 -- Classes in pages.
-use Rattle.std.proofs.Common.{◌≡◌, ℕ, zero, suc, ◌+◌, ◌-◌, ◌*◌, ◌/◌, ◌%◌, ◌^◌, ◌<◌, ◌≤◌, min, List, [], ◌∷◌, ◌++◌, length, get_or, take, drop, inl, inr, refl, sym, ◌∙◌, ap, arith, append-nil}
+use Rattle.std.proofs.Common.{◌≡◌, ℕ, zero, suc, ◌+◌, ◌-◌, ◌*◌, ◌/◌, ◌%◌, ◌^◌, ◌<◌, ◌≤◌, min, List, [], ◌∷◌, ◌++◌, length, get_or, take, drop, inl, inr, refl, sym, ◌∙◌, ap, arith, append-nil, All, subst}
 use Rattle.std.proofs.lemmas.Bool.{cases_lt}
 use Rattle.std.proofs.lemmas.Grind.{flat_map-append}
-use Rattle.std.proofs.lemmas.List.{length-append, length-take, length-drop, get_or-take, get_or-drop, get_or_append_left, get_or-append_right, take_all}
+use Rattle.std.proofs.lemmas.List.{length-append, length-take, length-drop, get_or-take, get_or-drop, get_or_append_left, get_or-append_right, take_all, take-take, drop-take}
 use Rattle.std.proofs.Math.Seq.{take-add}
 use Rattle.std.specs.List.{flat_map}
+use Rattle.view_ends.proofs.Taken.{drop-add}
 use Rattle.class_pages.specs.Pages.{page_count, page_of, IsPaged}
 
 -- the class of a record stands on its page
@@ -51,12 +52,13 @@ built_more f cs k n pages page next is h =
 pub built_is : {P : Type 0} (f : P → List ℕ) → (cs : List ℕ) (k : ℕ) (pages : List P) → k ≡ page_count (length cs) → IsBuilt f cs k pages → flat_map f pages ≡ cs
 built_is f cs k pages last h = h.all ∙ take_all (k * 4096) cs (omega (arith, last))
 
-pub built_all : {P : Type 0} (f : P → List ℕ) → (cs : List ℕ) (k n : ℕ) (pages : List P) → k ≡ page_count n → length cs ≡ n → n < 2 ^ 32 → IsBuilt f cs k pages → IsPaged f n pages
-built_all f cs k n pages last size few h =
+pub built_all : {P : Type 0} (f : P → List ℕ) → (cs : List ℕ) (k n : ℕ) (pages : List P) → k ≡ page_count n → length cs ≡ n → n < 2 ^ 32 → All (λ class. class < 256) cs → IsBuilt f cs k pages → IsPaged f n pages
+built_all f cs k n pages last size few bytes h =
     let is : flat_map f pages ≡ cs = built_is f cs k pages (last ∙ ap page_count (sym size)) h in
     record {
       long = ap length is ∙ size;
       few = few;
+      bytes = subst (All (λ class. class < 256)) (sym is) bytes;
       count = h.size ∙ last;
       each = λ j d lt. h.each j d (omega (arith, lt, h.size)) ∙ ap (λ (l : List ℕ). page_of l j) (sym is);
     }
@@ -74,3 +76,11 @@ page_within f cs k p is there = let long : length (f p) ≡ min 4096 (length cs 
 
 pub page_least : {P : Type 0} (f : P → List ℕ) → (cs : List ℕ) (k : ℕ) (p : P) → f p ≡ page_of cs k → k < page_count (length cs) → 1 ≤ length (f p)
 page_least f cs k p is there = let long : length (f p) ≡ min 4096 (length cs - k * 4096) = ap length is ∙ length-page_of cs k in omega (arith, long, there)
+
+-- classes that follow one another on a page
+pub run_of_page : (cs : List ℕ) (k at n first : ℕ) → at + n ≤ 4096 → k * 4096 + at ≡ first → take n (drop at (page_of cs k)) ≡ take n (drop first cs)
+run_of_page cs k at n first within place =
+    let page : at + (4096 - at) ≡ 4096 = omega (arith, within) in
+    ap (λ (m : ℕ). take n (drop at (take m (drop (k * 4096) cs)))) (sym page) ∙ ap (take n) (drop-take at (4096 - at) (drop (k * 4096) cs))
+    ∙ take-take n (4096 - at) (drop at (drop (k * 4096) cs)) (omega (arith, within))
+    ∙ ap (take n) (drop-add (k * 4096) at cs ∙ ap (λ (m : ℕ). drop m cs) place)

@@ -38,21 +38,6 @@ page_after_edit b cs old new e k is h =
         ∙ sym (get_or-after_edit b cs e (k * 4096 + i) there)
         ∙ sym (get_or-page_of (after_edit b cs e) k i 0 most))
 
--- a page on which an edit changes nothing
-pub same_page : (b old new : List ℕ) (e : Edit) (first n : ℕ) → n ≡ length old → new ≡ old → IsSame b first e n old → IsAfter b first e old new
-same_page b old new e first n size is same =
-    record { size = ap length is; each = λ i lt. ap (λ (l : List ℕ). get_or l i 0) is ∙ sym (same i (omega (arith, lt, size))) }
-
--- a record outside the edit's area keeps its class
-outside : (e : Edit) (c : ℕ) (s t : Bool) → s ≡ false → (if s && t then e.to else c) ≡ c
-outside e c s t is = ap (λ (k : Bool). if k && t then e.to else c) is
-
--- a page of which no record lies in the edit's area
-pub unmet_page : (b old new : List ℕ) (e : Edit) (k : ℕ) → length old ≤ 4096 → k * 4096 + length old ≤ record_count b → new ≡ old → HoldsNone b k e.area → IsAfter b (k * 4096) e old new
-unmet_page b old new e k most within is none =
-    same_page b old new e (k * 4096) (length old) refl is
-    (λ i lt. outside e (get_or old i 0) (in_box e.area (point_of b (k * 4096 + i))) (has e.from (get_or old i 0)) (none i (omega (arith, lt, most)) (omega (arith, lt, within))))
-
 counts_shift : (p : ℕ → Bool) (a n : ℕ) → count_by p (range_with_len a n) ≡ count_by (λ k. p (a + k)) (range_with_len 0 n)
 counts_shift p a zero = refl
 counts_shift p a (suc n) =

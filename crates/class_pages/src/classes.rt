@@ -1,4 +1,4 @@
-ghost use Rattle.std.specs.Prelude.{◌≡◌, ◌≢◌, ◌≤◌, ◌<◌, ◌+◌, ◌*◌, ◌^◌, ◌++◌, ◌∷◌, [], List, IfOk, IfSome, length, take, drop, slice_index};
+ghost use Rattle.std.specs.Prelude.{◌≡◌, ◌≢◌, ◌≤◌, ◌<◌, ◌+◌, ◌*◌, ◌^◌, ◌++◌, ◌∷◌, [], All, List, IfOk, IfSome, length, take, drop, slice_index};
 ghost use Rattle.std.specs.Arc.{arc_value};
 ghost use Rattle.class_pages.specs.AfterEdit.{after_edit, IsAfter};
 ghost use Rattle.class_pages.specs.Boxes.{AreBoxesOf};
@@ -62,9 +62,10 @@ impl Classes {
         self.records
     }
 
-    /// The number of pages: that of the classes divided by `PAGE`, rounded up.
+    /// The number of pages: that of the classes divided by `PAGE`, rounded up. Each class is a byte.
     pub fn pages(&self) -> u32
-        ensures { result ≡ page_count (length self.now) }
+        ensures count { result ≡ page_count (length self.now) }
+        ensures bytes { All (λ class. class < 256) self.now }
     {
         self.pages.len() as u32
     }

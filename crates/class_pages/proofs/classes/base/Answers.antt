@@ -4,7 +4,7 @@ use Rattle.view_meaning.specs.Classes.{classes}
 use Rattle.view_meaning.specs.Survey.{format_of, record_count}
 use Rattle.class_pages.specs.Fitting.{EachFits}
 use Rattle.class_pages.specs.Pages.{page_of, page_count}
-use Rattle.class_pages.proofs.Fitting.{length-classes, fits_page, fits_all}
+use Rattle.class_pages.proofs.Fitting.{length-classes, fits_page, fits_all, fits-bytes}
 use Rattle.class_pages.proofs.Pages.{take-left, built_more, built_is, built_all}
 use Rattle.class_pages.proofs.classes.base.Goals as goal
 
@@ -22,7 +22,9 @@ pub invariant_of-result : goal.invariant_of-result
 invariant_of-result c =
     let size : length (classes c.args.survey.now []) ≡ c.records-records.result = length-classes c.args.survey.now [] ∙ sym c.records-records.ensures.count in
     let last : c.loop-k.k ≡ page_count c.records-records.result = omega (arith, c.loop-k.auto.k-end, c.loop-k-test.false, c.div_ceil-count.ensures) in
-    built_all arc_value (classes c.args.survey.now []) c.loop-k.k c.records-records.result c.loop-k.pages.items last size (omega (arith, c.records-records.ensures.small)) c.loop-k.invariant.built
+    built_all arc_value (classes c.args.survey.now []) c.loop-k.k c.records-records.result c.loop-k.pages.items last size (omega (arith, c.records-records.ensures.small))
+    (fits-bytes (format_of c.args.survey.now) (classes c.args.survey.now []) (fits_all (c.loop-k.k * 4096) (format_of c.args.survey.now) (classes c.args.survey.now []) (omega (arith, size, last)) c.loop-k.invariant.fits))
+    c.loop-k.invariant.built
 
 pub returns-clause-classes : goal.returns-clause-classes
 returns-clause-classes c =

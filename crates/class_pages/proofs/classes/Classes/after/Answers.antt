@@ -1,4 +1,4 @@
-use Rattle.std.proofs.Common.{◌≡◌, ℕ, List, [], ◌+◌, ◌-◌, ◌*◌, ◌^◌, ◌<◌, ◌≤◌, length, take, min, rules, ap, sym, subst, ◌∙◌, arith}
+use Rattle.std.proofs.Common.{◌≡◌, ℕ, List, [], ◌+◌, ◌-◌, ◌*◌, ◌^◌, ◌<◌, ◌≤◌, length, take, min, rules, ap, sym, subst, ◌∙◌, arith, All}
 use Rattle.std.proofs.lemmas.List.{length-take}
 use Rattle.std.specs.Arc.{arc_value}
 use Rattle.std.specs.List.{flat_map}
@@ -7,7 +7,7 @@ use Rattle.view_meaning.specs.Survey.{format_of, record_count}
 use Rattle.class_pages.specs.AfterEdit.{after_edit}
 use Rattle.class_pages.specs.Fitting.{EachFits}
 use Rattle.class_pages.specs.Pages.{page_of, page_count}
-use Rattle.class_pages.proofs.Fitting.{after_edit-fits}
+use Rattle.class_pages.proofs.Fitting.{after_edit-fits, after_edit-bytes}
 use Rattle.class_pages.proofs.Pages.{built_nothing, built_more, built_is, built_all, page_is, page_most, page_within, page_least, IsBuilt}
 use Rattle.class_pages.proofs.Steps.{after_edit-classes}
 use Rattle.class_pages.proofs.Versions.{length-after_edit, page_after_edit, changed_none, changed_more, changed_most, changed_all}
@@ -71,7 +71,9 @@ invariant_of-result c =
     let long : length c.args.self.now ≡ c.self.inside.records = ap length (sym c.self.view_is) ∙ c.self.invariant.long in
     let last : c.loop-k.k ≡ length c.self.inside.pages.items = search rules in
     built_all arc_value (after_edit c.args.survey.now c.args.self.now c.args.edit.now) c.loop-k.k c.self.inside.records c.loop-k.pages.items (last ∙ c.self.invariant.count)
-    (length-after_edit c.args.survey.now c.args.self.now c.args.edit.now ∙ long) c.self.invariant.few c.loop-k.invariant.built
+    (length-after_edit c.args.survey.now c.args.self.now c.args.edit.now ∙ long) c.self.invariant.few
+    (after_edit-bytes c.args.survey.now c.args.self.now c.args.edit.now (format_of c.args.survey.now) c.requires.room (subst (All (λ class. class < 256)) c.self.view_is c.self.invariant.bytes))
+    c.loop-k.invariant.built
 
 pub returns-clause-classes : goal.returns-clause-classes
 returns-clause-classes c =
