@@ -1,4 +1,5 @@
 pub mod Fronts
 pub mod Fitting
+pub mod PageRuns
 pub mod Runs
 pub mod Saved

@@ -5,7 +5,7 @@ ghost use Rattle.view_ends.specs.Ends.{Rose, Gains, GainsPart};
 ghost use Rattle.view_meaning.specs.Classes.{saved};
 ghost use Rattle.view_meaning.specs.Survey.{format_of, points_at, points_end, record_count};
 
-use crate::records::copy_records;
+use crate::records::{copy_records, run_from};
 use class_pages::Classes;
 use las_survey::Survey;
 use view_ends::{EndFault, Sink, give_all};
@@ -51,7 +51,7 @@ fn around_points(survey: &Survey) -> (&[u8], &[u8])
     (&bytes[..start], &bytes[end..])
 }
 
-/// Gives the point records with their classes, as many at once as there is room for.
+/// Gives the point records with their classes, page by page, as many at once as there is room for.
 fn give_records<K: Sink>(survey: &Survey, classes: &Classes, sink: &mut K) -> Result<(), EndFault>
     requires there { HasPoints survey.now }
     requires records { length classes.now ≡ record_count survey.now }
@@ -66,15 +66,15 @@ fn give_records<K: Sink>(survey: &Survey, classes: &Classes, sink: &mut K) -> Re
 {
     let mut buffer = [0u8; ROOM];
     let size = usize::from(survey.header().length);
-    let most = (ROOM / size) as u32;
+    let most = ROOM / size;
     let records = survey.records();
     let mut given = 0;
     while given < records {
-        let count = most.min(records - given);
-        let piece = &mut buffer[..count as usize * size];
-        copy_records(piece, survey, classes, given, count);
+        let run = run_from(classes, given, most);
+        let piece = &mut buffer[..run.len() * size];
+        copy_records(piece, survey, run, given);
         give_all(sink, piece)?;
-        given += count;
+        given += run.len() as u32;
     }
     Ok(())
 }

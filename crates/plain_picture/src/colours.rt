@@ -6,6 +6,7 @@ ghost use Rattle.view_meaning.specs.Picture.{class_colour};
 ghost use Rattle.plain_picture.specs.Names.{NamesOne};
 
 use crate::frame::EMPTY;
+use class_pages::Classes;
 use view_base::Bytes;
 
 /// How many pixels' colours are appended at once.
@@ -13,12 +14,13 @@ const CHUNK: usize = 1024;
 
 /// Appends the colours of words by the classes of the records that they name, three bytes for each
 /// word. They fit in the room, so this takes no memory.
-pub(crate) fn append_colours(words: &[u64], classes: &[u8], out: &mut Bytes)
+pub(crate) fn append_colours(words: &[u64], classes: &Classes, out: &mut Bytes)
     requires room { 3 * length words.now ≤ out.old.spare }
     requires names { All (NamesOne (length classes.now)) words.now }
-    ensures bytes { (i : ℕ) → slice_index classes.now i < 256 }
+    ensures bytes { All (λ class. class < 256) classes.now }
     ensures colours { (b : List ℕ) → out.new.items ≡ out.old.items ++ flat_map (word_colour b classes.now Class) words.now }
 {
+    let _pages = classes.pages();
     let mut colours = [0; 3 * CHUNK];
     for chunk in words.chunks(CHUNK) {
         let bytes = 3 * chunk.len();
@@ -28,7 +30,7 @@ pub(crate) fn append_colours(words: &[u64], classes: &[u8], out: &mut Bytes)
 }
 
 /// Writes the three bytes of each pixel with one of these words.
-fn colour_pixels(colours: &mut [u8], words: &[u64], classes: &[u8])
+fn colour_pixels(colours: &mut [u8], words: &[u64], classes: &Classes)
     requires size { length colours.old ≡ 3 * length words.now }
     requires names { All (NamesOne (length classes.now)) words.now }
     ensures { (b : List ℕ) → colours.new ≡ flat_map (word_colour b classes.now Class) words.now }
@@ -43,14 +45,14 @@ fn colour_pixels(colours: &mut [u8], words: &[u64], classes: &[u8])
 
 /// The three bytes of a pixel with this word: those of its record's class, or black.
 #[inline]
-fn colour_of(word: u64, classes: &[u8]) -> [u8; 3]
+fn colour_of(word: u64, classes: &Classes) -> [u8; 3]
     requires { NamesOne (length classes.now) word }
     ensures { (b : List ℕ) → result ≡ word_colour b classes.now Class word }
 {
     if word == EMPTY {
         return [0; 3];
     }
-    palette(classes[(word % (1 << 32)) as usize])
+    palette(classes.class_at((word % (1 << 32)) as u32))
 }
 
 /// Red, green and blue of a class.

@@ -45,7 +45,7 @@ pub fn picture<B: Beside>(
     ensures nearest { OnOk result (ShowsNearest (arc_value scene.now.survey) classes.now view.now (drop (length out.old.items) out.new.items)) }
     ensures refused { OnErr result (out.new.items ≡ out.old.items) }
 {
-    let classes = classes.as_slice();
+    let _pages = classes.pages();
     let words = nearest_words(alloc, &*scene.survey, &view.camera)?;
     out.reserve(HEADER + 3 * words.len())?;
     ppm_header(view.camera.width(), view.camera.height(), out);

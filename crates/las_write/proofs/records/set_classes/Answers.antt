@@ -1,5 +1,5 @@
-use Rattle.std.proofs.Common.{◌≡◌, ℕ, ◌+◌, ◌*◌, List, get_or, slice_set, arith, ap, ◌∙◌}
-use Rattle.std.proofs.lemmas.List.{length-set}
+use Rattle.std.proofs.Common.{◌≡◌, ℕ, ◌+◌, ◌*◌, List, length, get_or, slice_set, take, drop, arith, ap, ◌∙◌}
+use Rattle.std.proofs.lemmas.List.{length-set, get_or-take, get_or-drop}
 use Rattle.view_meaning.specs.Classes.{with_class}
 use Rattle.view_meaning.specs.Survey.{format_of, record_length, class_place}
 use Rattle.las_write.proofs.Runs.{half_saved, half_saved-more, place_within}
@@ -16,12 +16,15 @@ loop-k-preserved c =
     let at : k * c.from-size.result + c.class_place-place.result ≡ k * record_length b + class_place (format_of b) =
     ap (λ (n : ℕ). k * n + c.class_place-place.result) size ∙ ap (λ (n : ℕ). k * record_length b + n) place in
     let byte = k * c.from-size.result + c.class_place-place.result in
-    let class : c.with_class.result ≡ with_class (format_of b) (get_or (half_saved b cs c.args.first c.args.count k) byte 0) (get_or cs (c.args.first + k) 0) =
-    c.with_class.ensures.byte ∙ ap (λ (n : ℕ). with_class n (get_or c.loop-k.piece byte 0) c.class_at.result) format
-    ∙ ap (λ (l : List ℕ). with_class (format_of b) (get_or l byte 0) c.class_at.result) c.loop-k.invariant.half
-    ∙ ap (λ (n : ℕ). with_class (format_of b) (get_or (half_saved b cs c.args.first c.args.count k) byte 0) n) c.class_at.ensures in
     record {
       size = length-set c.loop-k.piece byte c.with_class.result ∙ c.loop-k.invariant.size;
-      half = ap (λ (l : List ℕ). slice_set l byte c.with_class.result) c.loop-k.invariant.half
-          ∙ half_saved-more b cs c.args.first c.args.count k (k + 1) byte c.with_class.result c.requires.there.whole (place_within (format_of b) (record_length b) c.requires.there.least) c.requires.within c.loop-k-test.true (omega arith) at class;
+      half = λ all is.
+          let read : get_or cs k 0 ≡ get_or all (c.args.first + k) 0 =
+          ap (λ (l : List ℕ). get_or l k 0) is ∙ get_or-take (length cs) (drop c.args.first all) k 0 c.loop-k-test.true ∙ get_or-drop c.args.first all k 0 in
+          let class : c.with_class.result ≡ with_class (format_of b) (get_or (half_saved b all c.args.first (length cs) k) byte 0) (get_or all (c.args.first + k) 0) =
+          c.with_class.ensures.byte ∙ ap (λ (n : ℕ). with_class n (get_or c.loop-k.piece byte 0) (get_or cs k 0)) format
+          ∙ ap (λ (l : List ℕ). with_class (format_of b) (get_or l byte 0) (get_or cs k 0)) (c.loop-k.invariant.half all is)
+          ∙ ap (λ (n : ℕ). with_class (format_of b) (get_or (half_saved b all c.args.first (length cs) k) byte 0) n) read in
+          ap (λ (l : List ℕ). slice_set l byte c.with_class.result) (c.loop-k.invariant.half all is)
+          ∙ half_saved-more b all c.args.first (length cs) k (k + 1) byte c.with_class.result c.requires.there.whole (place_within (format_of b) (record_length b) c.requires.there.least) c.requires.within c.loop-k-test.true (omega arith) at class;
     }
