@@ -17,10 +17,8 @@ const CHUNK: usize = 1024;
 pub(crate) fn append_colours(words: &[u64], classes: &Classes, out: &mut Bytes)
     requires room { 3 * length words.now ≤ out.old.spare }
     requires names { All (NamesOne (length classes.now)) words.now }
-    ensures bytes { All (λ class. class < 256) classes.now }
-    ensures colours { (b : List ℕ) → out.new.items ≡ out.old.items ++ flat_map (word_colour b classes.now Class) words.now }
+    ensures { (b : List ℕ) → out.new.items ≡ out.old.items ++ flat_map (word_colour b classes.now Class) words.now }
 {
-    let _pages = classes.pages();
     let mut colours = [0; 3 * CHUNK];
     for chunk in words.chunks(CHUNK) {
         let bytes = 3 * chunk.len();

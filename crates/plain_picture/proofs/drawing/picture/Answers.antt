@@ -1,4 +1,6 @@
-use Rattle.std.proofs.Common.{◌≡◌, ◌<◌, ◌∙◌, ◌++◌, List, ℕ, length, get_or, ap, sym, subst, arith, append_assoc}
+use Rattle.std.proofs.Common.{◌≡◌, ◌<◌, ◌∙◌, ◌++◌, All, List, ℕ, inl, inr, length, get_or, ap, sym, subst, arith, append_assoc}
+use Rattle.std.proofs.lemmas.Bool.{cases_lt}
+use Rattle.std.proofs.lemmas.List.{get_or_past}
 use Rattle.std.specs.List.{flat_map}
 use Rattle.std.specs.Arc.{arc_value}
 use Rattle.view_base.specs.declared.colour.Colouring.TheVariants.{Class}
@@ -15,18 +17,20 @@ use Rattle.plain_picture.proofs.Plain.{every_passes, frame_names_records}
 use Rattle.plain_picture.proofs.drawing.picture.Goals as goal
 
 -- classes that are bytes let every record pass
-passing : (b cs held : List ℕ) (lens : Lens) → held ≡ cs → ((i : ℕ) → get_or held i 0 < 256) → EveryPasses b cs (by_class lens)
-passing b cs held lens same bytes = every_passes b cs lens (λ i. subst (λ (l : List ℕ). get_or l i 0 < 256) same (bytes i))
+passing : (b cs : List ℕ) (lens : Lens) → All (λ class. class < 256) cs → EveryPasses b cs (by_class lens)
+passing b cs lens bytes = every_passes b cs lens (λ i. elim (cases_lt i (length cs)) [
+  | inl inside ↦ bytes i 0 inside
+  | inr past ↦ let none : get_or cs i 0 ≡ 0 = get_or_past cs i 0 past in omega (arith, none)
+])
 
 pub append_colours-requires-clause-names : goal.append_colours-requires-clause-names
 append_colours-requires-clause-names g c =
     let b = c.deref.result.now in
     let lens = c.view.inside.camera in
     let cs = c.args.classes.now in
-    let held = c.as_slice-classes.result.now in
-    let all : EveryPasses b cs (by_class lens) = passing b cs held lens c.as_slice-classes.ensures (λ i. (c.type_inv.classes i).fits) in
-    let count : record_count b ≡ length held = ap record_count c.deref.ensures ∙ sym c.requires.records ∙ ap length (sym c.as_slice-classes.ensures) in
-    subst (λ (l : List ℕ). (k d : ℕ) → k < length l → NamesOne (length held) (get_or l k d)) (sym c.as_slice.ensures)
+    let all : EveryPasses b cs (by_class lens) = passing b cs lens c.pages-pages.ensures.bytes in
+    let count : record_count b ≡ length cs = ap record_count c.deref.ensures ∙ sym c.requires.records in
+    subst (λ (l : List ℕ). (k d : ℕ) → k < length l → NamesOne (length cs) (get_or l k d)) (sym c.as_slice.ensures)
     (subst (λ (n : ℕ). (k d : ℕ) → k < length c.in_ok-words.words.items → NamesOne n (get_or c.in_ok-words.words.items k d)) count
     (frame_names_records b cs (by_class lens) c.in_ok-words.words.items (omega (arith, c.width.ensures)) (c.in_ok-words.ensures.words cs all) (c.in_ok-words.ensures.nearest cs all)))
 
@@ -37,10 +41,9 @@ returns-clause-drawn g c =
     let cs = c.args.classes.now in
     let words = c.in_ok-words.words.items in
     let colours = λ (l : List ℕ). flat_map (word_colour b cs Class) l in
-    let all : EveryPasses b cs (by_class lens) = passing b cs c.as_slice-classes.result.now lens c.as_slice-classes.ensures c.append_colours.ensures.bytes in
+    let all : EveryPasses b cs (by_class lens) = passing b cs lens c.pages-pages.ensures.bytes in
     let view_is : by_class lens ≡ c.args.view.now = ap (λ (v : View). by_class v.camera) c.view.view_is ∙ sym c.requires.by_class in
-    c.append_colours.ensures.colours b
-    ∙ ap (λ (l : List ℕ). c.ppm_header.new.out.items ++ flat_map (word_colour b l Class) c.as_slice.result.now) c.as_slice-classes.ensures
+    c.append_colours.ensures b
     ∙ ap (λ (l : List ℕ). c.ppm_header.new.out.items ++ colours l) c.as_slice.ensures
     ∙ ap (λ (l : List ℕ). l ++ colours words) (c.ppm_header.ensures.appended ∙ ap (λ (l : List ℕ). l ++ ppm_header c.width.result c.height.result) c.in_ok-reserve.ensures.same)
     ∙ append_assoc c.args.out.now.items (ppm_header c.width.result c.height.result) (colours words)
