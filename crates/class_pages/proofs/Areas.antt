@@ -92,16 +92,22 @@ alone p = let same : (x : ℤ) → le_z x x ≡ true = λ x. grind (arith, ints)
 
 in_wider_new : (a : Box3) (p : Point) → in_box (wider a p) p ≡ true
 in_wider_new a p = in_it (wider a p) p (record {
-  low_x = least a.min.x p.x; high_x = most a.max.x p.x;
-  low_y = least a.min.y p.y; high_y = most a.max.y p.y;
-  low_z = least a.min.z p.z; high_z = most a.max.z p.z;
+  low_x = least a.min.x p.x;
+  high_x = most a.max.x p.x;
+  low_y = least a.min.y p.y;
+  high_y = most a.max.y p.y;
+  low_z = least a.min.z p.z;
+  high_z = most a.max.z p.z;
 })
 
 in_wider_old : (a : Box3) (p q : Point) → in_box a q ≡ true → in_box (wider a p) q ≡ true
 in_wider_old a p q h = let s = is_in a q h in in_it (wider a p) q (record {
-  low_x = lower a.min.x p.x q.x s.low_x; high_x = higher a.max.x p.x q.x s.high_x;
-  low_y = lower a.min.y p.y q.y s.low_y; high_y = higher a.max.y p.y q.y s.high_y;
-  low_z = lower a.min.z p.z q.z s.low_z; high_z = higher a.max.z p.z q.z s.high_z;
+  low_x = lower a.min.x p.x q.x s.low_x;
+  high_x = higher a.max.x p.x q.x s.high_x;
+  low_y = lower a.min.y p.y q.y s.low_y;
+  high_y = higher a.max.y p.y q.y s.high_y;
+  low_z = lower a.min.z p.z q.z s.low_z;
+  high_z = higher a.max.z p.z q.z s.high_z;
 })
 
 -- the box of one record

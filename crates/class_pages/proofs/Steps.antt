@@ -84,10 +84,10 @@ classes_run b old cs first n size within h =
     let long : length all ≡ record_count b = length-map-range_with_len (class_at b []) 0 (record_count b) in
     let run : length (take n (drop first all)) ≡ n = length-take n (drop first all) ∙ omega (arith, long, within, length-drop first all) in
     ext_get_or 0 cs (take n (drop first all)) (h.size ∙ size ∙ sym run) (λ i lt.
-        let inside : i < n = omega (arith, lt, h.size, size) in
-        h.made i inside
-        ∙ sym (get_or-map-range_with_len (class_at b []) 0 (record_count b) (first + i) (first + i) 0 (omega (arith, inside, within)) (omega arith))
-        ∙ sym (get_or-drop first all i 0) ∙ sym (get_or-take n (drop first all) i 0 inside))
+    let inside : i < n = omega (arith, lt, h.size, size) in
+    h.made i inside
+    ∙ sym (get_or-map-range_with_len (class_at b []) 0 (record_count b) (first + i) (first + i) 0 (omega (arith, inside, within)) (omega arith))
+    ∙ sym (get_or-drop first all i 0) ∙ sym (get_or-take n (drop first all) i 0 inside))
 
 -- the classes after an edit are those after one more edit of the list
 pub after_edit-classes : (b : List ℕ) (edits : List Edit) (e : Edit) → after_edit b (classes b edits) e ≡ classes b (edits ++ e ∷ [])
@@ -132,6 +132,7 @@ counted_same n f old same = sym (counts_same 0 n (λ k. not (get_or old k 0 == f
   where
     one : (v w : ℕ) → v ≡ w → not (w == v) ≡ false
     one v w is = grind (arith, nat_tests)
+
     none : (a n : ℕ) → count_by (λ k. false) (range_with_len a n) ≡ 0
     none a zero = refl
     none a (suc n) = none (a + 1) n

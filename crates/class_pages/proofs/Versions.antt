@@ -30,13 +30,13 @@ page_after_edit b cs old new e k is h =
     let size : length new ≡ length (page_of (after_edit b cs e) k) =
     h.size ∙ long ∙ ap (λ (n : ℕ). min 4096 (n - k * 4096)) (sym (length-after_edit b cs e)) ∙ sym (length-page_of (after_edit b cs e) k) in
     ext_get_or 0 new (page_of (after_edit b cs e) k) size (λ i lt.
-        let within : i < length old = omega (arith, lt, h.size) in
-        let most : i < 4096 = omega (arith, within, long) in
-        let there : k * 4096 + i < length cs = omega (arith, within, long) in
-        h.each i within ∙ ap (λ (l : List ℕ). class_after (point_of b (k * 4096 + i)) (get_or l i 0) e) is
-        ∙ ap (λ (c : ℕ). class_after (point_of b (k * 4096 + i)) c e) (get_or-page_of cs k i 0 most)
-        ∙ sym (get_or-after_edit b cs e (k * 4096 + i) there)
-        ∙ sym (get_or-page_of (after_edit b cs e) k i 0 most))
+    let within : i < length old = omega (arith, lt, h.size) in
+    let most : i < 4096 = omega (arith, within, long) in
+    let there : k * 4096 + i < length cs = omega (arith, within, long) in
+    h.each i within ∙ ap (λ (l : List ℕ). class_after (point_of b (k * 4096 + i)) (get_or l i 0) e) is
+    ∙ ap (λ (c : ℕ). class_after (point_of b (k * 4096 + i)) c e) (get_or-page_of cs k i 0 most)
+    ∙ sym (get_or-after_edit b cs e (k * 4096 + i) there)
+    ∙ sym (get_or-page_of (after_edit b cs e) k i 0 most))
 
 counts_shift : (p : ℕ → Bool) (a n : ℕ) → count_by p (range_with_len a n) ≡ count_by (λ k. p (a + k)) (range_with_len 0 n)
 counts_shift p a zero = refl
@@ -105,6 +105,7 @@ changed_same old new is =
   where
     equal : (v : ℕ) → not (v == v) ≡ false
     equal v = grind (arith, nat_tests)
+
     none : (a n : ℕ) → count_by (λ k. false) (range_with_len a n) ≡ 0
     none a zero = refl
     none a (suc n) = none (a + 1) n
