@@ -10,7 +10,7 @@ use Rattle.view_meaning.specs.Classes.{Edit, applies, class_after, class_at, cla
 use Rattle.class_pages.specs.AfterEdit.{after_edit}
 use Rattle.class_pages.specs.Fitting.{EachFits}
 use Rattle.class_pages.specs.Pages.{page_of}
-use Rattle.class_pages.proofs.Pages.{get_or-page_of, length-page_of}
+use Rattle.class_pages.proofs.Pages.{get_or-page_of}
 
 -- the first i classes are at most the format's greatest
 abbrev pub FitsBelow : ℕ → ℕ → List ℕ → Type 0

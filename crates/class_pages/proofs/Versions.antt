@@ -1,18 +1,17 @@
 -- A version's pages after one more edit, and how many classes changed on them.
-use Rattle.std.proofs.Common.{◌≡◌, ℕ, zero, suc, ◌+◌, ◌-◌, ◌*◌, ◌==◌, ◌<◌, ◌≤◌, not, min, Bool, true, false, cond, if◌then◌else◌, ◌&&◌, List, [], ◌∷◌, ◌++◌, length, get_or, map, take, drop, refl, sym, ◌∙◌, ap, arith, count_by}
+use Rattle.std.proofs.Common.{◌≡◌, ℕ, zero, suc, ◌+◌, ◌-◌, ◌*◌, ◌==◌, ◌<◌, ◌≤◌, not, min, Bool, false, cond, List, ◌++◌, length, get_or, take, refl, sym, ◌∙◌, ap, arith, count_by}
 use Rattle.std.proofs.lemmas.Bool.Decides.{nat_tests}
-use Rattle.std.proofs.lemmas.List.{ext_get_or, length-append, length-take, length-drop, take_all, get_or_append_left, get_or-append-add}
+use Rattle.std.proofs.lemmas.List.{ext_get_or, length-append, length-take, take_all, get_or_append_left, get_or-append-add}
 use Rattle.std.proofs.lemmas.List.FromFn.{get_or-map-range_with_len, length-map-range_with_len}
 use Rattle.std.proofs.lemmas.List.Sums.{sum_by-append, count_by-le-length}
 use Rattle.std.proofs.Math.Seq.{take-add}
 use Rattle.std.specs.List.{range_with_len}
 use Rattle.view_meaning.proofs.Rows.{range-append}
-use Rattle.view_meaning.specs.Survey.{point_of, record_count}
-use Rattle.view_meaning.specs.Classes.{Edit, has, in_box, class_after, changed}
+use Rattle.view_meaning.specs.Survey.{point_of}
+use Rattle.view_meaning.specs.Classes.{Edit, class_after, changed}
 use Rattle.class_pages.proofs.Pages.{get_or-page_of, length-page_of}
 use Rattle.class_pages.proofs.Steps.{counts_more, counts_same}
-use Rattle.class_pages.specs.AfterEdit.{after_edit, IsAfter, IsSame}
-use Rattle.class_pages.specs.Boxes.{HoldsNone}
+use Rattle.class_pages.specs.AfterEdit.{after_edit, IsAfter}
 use Rattle.class_pages.specs.Pages.{page_of}
 
 pub length-after_edit : (b cs : List ℕ) (e : Edit) → length (after_edit b cs e) ≡ length cs

@@ -1,7 +1,7 @@
-use Rattle.std.proofs.Common.{◌≡◌, ℕ, List, [], ◌+◌, ◌-◌, ◌*◌, ◌^◌, ◌<◌, length, min, ap, sym, subst, ◌∙◌, arith}
+use Rattle.std.proofs.Common.{◌≡◌, [], ◌+◌, ◌*◌, length, ap, sym, subst, ◌∙◌, arith}
 use Rattle.std.specs.Arc.{arc_value}
 use Rattle.view_meaning.specs.Classes.{classes}
-use Rattle.view_meaning.specs.Survey.{format_of, record_count}
+use Rattle.view_meaning.specs.Survey.{format_of}
 use Rattle.class_pages.specs.Fitting.{EachFits}
 use Rattle.class_pages.specs.Pages.{page_of, page_count}
 use Rattle.class_pages.proofs.Fitting.{length-classes, fits_page, fits_all, fits-bytes}

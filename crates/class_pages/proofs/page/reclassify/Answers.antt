@@ -1,4 +1,4 @@
-use Rattle.std.proofs.Common.{ℕ, List, Bool, true, false, ◌≤◌, arith, ap, ◌≡◌, ◌∙◌, ◌+◌, get_or, length}
+use Rattle.std.proofs.Common.{ℕ, List, Bool, true, false, ◌≤◌, arith, ap, ◌≡◌, ◌∙◌, ◌+◌, get_or}
 use Rattle.view_meaning.proofs.Reading.{point-from_part}
 use Rattle.view_meaning.specs.Survey.{point_of}
 use Rattle.view_meaning.specs.Classes.{class_after}
