@@ -11,7 +11,7 @@ use Rattle.version_store.specs.declared.history.Entry.{Entry}
 use Rattle.version_store.specs.declared.ahead.Ahead.{Ahead}
 use Rattle.version_store.specs.Histories.{journal}
 use Rattle.version_store.specs.Store.{Stored, Pinned, newest, with_entry}
-use Rattle.version_store.specs.Sharing.{maker, IsAhead}
+use Rattle.version_store.specs.Sharing.{maker, changed_by_last, IsAhead}
 use Rattle.version_store.proofs.HistoryLaws.{journal-append, journal-publish, journal-pin}
 
 -- what a store gained in a turn that had noted its history is one entry by this caller
@@ -34,21 +34,19 @@ pin_shown (Err refusal) old new who caller b seen by of shown made is = tt
 -- how many classes an edit changed, of the version before the one that its pass has then seen
 pub count_shown : {E : Type 0} (result : Result (ℕ × ℕ) E) (old new : Stored) (who : ℕ) (edit : meaning.Edit) (b : List ℕ) (seen : List Entry)
     → old.bytes ≡ b → seen ≡ new.history → OnOk result (new ≡ with_entry old who (Publish edit))
-    → IfOk result (λ made. made.0 ≡ length (journal new.history))
     → IfOk result (λ made. made.1 ≡ meaning.changed (newest old) (newest new))
-    → IfOk result (λ made. made.1 ≡ meaning.changed (meaning.classes b (take (made.0 - 1) (journal seen))) (meaning.classes b (journal seen)))
-count_shown (Ok made) old new who edit b seen of shown is version count =
+    → IfOk result (λ made. made.1 ≡ changed_by_last b (journal seen))
+count_shown (Ok made) old new who edit b seen of shown is count =
     let bytes : new.bytes ≡ b = ap (λ (s : Stored). s.bytes) is ∙ of in
-    let all : journal new.history ≡ journal old.history ++ edit ∷ [] = ap (λ (s : Stored). journal s.history) is ∙ journal-publish old.history who edit in
-    let before : take (made.0 - 1) (journal seen) ≡ journal old.history =
-    ap (λ (h : List Entry). take (made.0 - 1) (journal h)) shown
-    ∙ ap (λ (l : List meaning.Edit). take (made.0 - 1) l) all
-    ∙ take_at (journal old.history) (edit ∷ []) (made.0 - 1) (omega (arith, version, ap length all, length_push (journal old.history) edit)) in
+    let all : journal seen ≡ journal old.history ++ edit ∷ [] = ap journal (shown ∙ ap (λ (s : Stored). s.history) is) ∙ journal-publish old.history who edit in
+    let before : take (length (journal seen) - 1) (journal seen) ≡ journal old.history =
+    ap (λ (l : List meaning.Edit). take (length (journal seen) - 1) l) all
+    ∙ take_at (journal old.history) (edit ∷ []) (length (journal seen) - 1) (omega (arith, ap length all, length_push (journal old.history) edit)) in
     count
     ∙ ap (λ (l : List ℕ). meaning.changed (meaning.classes l (journal old.history)) (newest new)) of
     ∙ ap (λ (l : List ℕ). meaning.changed (meaning.classes b (journal old.history)) (meaning.classes l (journal new.history))) bytes
     ∙ sym (rw (before, shown) refl)
-count_shown (Err refusal) old new who edit b seen of shown is version count = tt
+count_shown (Err refusal) old new who edit b seen of shown is count = tt
 
 -- the classes of the newest version once an edit was published
 pub newest-publish : (old new : Stored) (who : ℕ) (edit : meaning.Edit) → new ≡ with_entry old who (Publish edit) → newest new ≡ meaning.classes old.bytes (journal old.history ++ edit ∷ [])

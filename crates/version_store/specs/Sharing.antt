@@ -1,5 +1,5 @@
 -- A shared store as its callers see it, and what a call makes of a pass.
-use Rattle.std.specs.Prelude.{◌≡◌, ℕ, List, [], ◌∷◌, ◌++◌, length}
+use Rattle.std.specs.Prelude.{◌≡◌, ℕ, ◌-◌, List, [], ◌∷◌, ◌++◌, length, take}
 use Rattle.std.specs.Arc.{arc_value}
 use mathlib.Core.List.{IsPrefix}
 use Rattle.atomic_table.specs.Seated.{TableId}
@@ -24,6 +24,10 @@ maker entry = entry.who
 -- what a pass has seen is a legal history, in which its own entries stand once and in order
 abbrev pub IsOwn : Passed Entry → Type 0
 IsOwn pass = IsSettled IsLegal maker pass
+
+-- at how many places the classes after these edits differ from those after all but the last
+abbrev pub changed_by_last : List ℕ → List meaning.Edit → ℕ
+changed_by_last b edits = meaning.changed (meaning.classes b (take (length edits - 1) edits)) (meaning.classes b edits)
 
 -- a call made one entry: what its pass had seen is followed by entries of others and by this one
 pub record MakesOne (what : What) (old new : Passed Entry) : Type 0 where

@@ -1,10 +1,10 @@
-ghost use Rattle.std.specs.Prelude.{◌≡◌, ℕ, ◌+◌, ◌-◌, ◌^◌, ◌<◌, ◌≤◌, ◌⊎◌, true, false, [], ◌∷◌, ◌++◌, length, map, take, All, Contains, None, IfOk, OnOk, OnErr, MatchResult};
+ghost use Rattle.std.specs.Prelude.{◌≡◌, ◌+◌, ◌-◌, ◌^◌, ◌<◌, ◌≤◌, ◌⊎◌, true, false, [], ◌∷◌, ◌++◌, length, map, All, Contains, None, IfOk, OnOk, OnErr};
 ghost use Rattle.std.specs.Arc.{arc_value};
 ghost use mathlib.Core.List.{IsPrefix};
 ghost use Rattle.class_pages.specs.Fitting.{EachFits};
 ghost use Rattle.turn_gate.specs.Meaning.{longer, made_by};
 ghost use Rattle.version_store.specs.Histories.{journal, HasPinned};
-ghost use Rattle.version_store.specs.Sharing.{IsAhead, IsOwn, MakesOne, MakesNone, maker};
+ghost use Rattle.version_store.specs.Sharing.{IsAhead, IsOwn, MakesOne, MakesNone, changed_by_last, maker};
 ghost use Rattle.version_store.specs.declared.history.What.TheVariants as what;
 ghost use Rattle.view_meaning.specs.Classes as meaning;
 ghost use Rattle.view_meaning.specs.Survey.{format_of, record_count};
@@ -118,8 +118,7 @@ impl Shared {
         ensures own { IsOwn pass.new }
         ensures made { OnOk result (MakesOne (what.Publish edit.now) pass.old pass.new) }
         ensures version { IfOk result (λ made. made.0 ≡ length (journal pass.new.seen)) }
-        ensures count { IfOk result (λ made. made.1 ≡ meaning.changed (meaning.classes self.now.bytes (take (made.0 - 1) (journal pass.new.seen)))
-            (meaning.classes self.now.bytes (journal pass.new.seen))) }
+        ensures count { IfOk result (λ made. made.1 ≡ changed_by_last self.now.bytes (journal pass.new.seen)) }
         ensures refused { OnErr result (MakesNone pass.old pass.new) }
     {
         let (from, classes) = self.newest(rt, pass)?;
@@ -228,8 +227,7 @@ impl Shared {
         ensures own { IsOwn pass.new }
         ensures made { OnOk result (MakesOne (what.Publish edit.now) pass.old pass.new) }
         ensures version { IfOk result (λ made. made.0 ≡ length (journal pass.new.seen)) }
-        ensures count { IfOk result (λ made. made.1 ≡ meaning.changed (meaning.classes self.now.bytes (take (made.0 - 1) (journal pass.new.seen)))
-            (meaning.classes self.now.bytes (journal pass.new.seen))) }
+        ensures count { IfOk result (λ made. made.1 ≡ changed_by_last self.now.bytes (journal pass.new.seen)) }
         ensures refused { OnErr result (MakesNone pass.old pass.new) }
     {
         let (mut turn, mut store) = self.gate.enter(rt, pass);

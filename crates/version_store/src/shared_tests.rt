@@ -1,6 +1,4 @@
-ghost use Rattle.std.specs.Prelude.{◌≡◌, ◌≤◌, None};
-ghost use Rattle.view_meaning.specs.Classes as meaning;
-ghost use Rattle.view_meaning.specs.Survey.{format_of};
+ghost use Rattle.std.specs.Prelude.{◌≡◌, None};
 ghost use Rattle.version_store.specs.Sharing.{IsOwn};
 
 use crate::tests::survey;
@@ -64,10 +62,10 @@ fn has_three(rt: &impl Abort, history: &[Entry], edit: Edit) {
 fn publish<R: Wait + Abort>(rt: &R, shared: &Shared, pass: &mut Pass, edit: &Edit) -> (u64, u64)
     requires gate { pass.old.gate ≡ shared.now.name }
     requires outside { pass.old.turn ≡ None }
-    requires room { edit.now.to ≤ meaning.top_class (format_of shared.now.bytes) }
     ensures pass { pass.new ≡ record pass.old { seen = pass.new.seen; mine = pass.new.mine } }
     ensures own { IsOwn pass.new }
 {
+    assert!(rt; edit.to <= 31);
     shared.publish(rt, pass, edit).expect(rt, "memory")
 }
 
@@ -139,7 +137,6 @@ fn run_four<R: Threads + Wait + Abort + Sync>(
 ) -> ((Vec<Round>, Vec<Round>), (Vec<Round>, Vec<Round>))
     requires gate { (one.old.gate ≡ shared.now.name) × (two.old.gate ≡ shared.now.name) × (three.old.gate ≡ shared.now.name) × (four.old.gate ≡ shared.now.name) }
     requires outside { (one.old.turn ≡ None) × (two.old.turn ≡ None) × (three.old.turn ≡ None) × (four.old.turn ≡ None) }
-    requires room { (low.now.to ≤ meaning.top_class (format_of shared.now.bytes)) × (high.now.to ≤ meaning.top_class (format_of shared.now.bytes)) }
     ensures one { one.new ≡ record one.old { seen = one.new.seen; mine = one.new.mine } }
     ensures two { two.new ≡ record two.old { seen = two.new.seen; mine = two.new.mine } }
     ensures three { three.new ≡ record three.old { seen = three.new.seen; mine = three.new.mine } }
@@ -148,10 +145,10 @@ fn run_four<R: Threads + Wait + Abort + Sync>(
     join_mut(
         rt,
         &mut ||
-            requires { (one.now.gate ≡ shared.now.name) × (two.now.gate ≡ shared.now.name) × (one.now.turn ≡ None) × (two.now.turn ≡ None) × (low.now.to ≤ meaning.top_class (format_of shared.now.bytes)) × (high.now.to ≤ meaning.top_class (format_of shared.now.bytes)) }
+            requires { (one.now.gate ≡ shared.now.name) × (two.now.gate ≡ shared.now.name) × (one.now.turn ≡ None) × (two.now.turn ≡ None) }
         { run_two(rt, alloc, shared, low, high, one, two) },
         &mut ||
-            requires { (three.now.gate ≡ shared.now.name) × (four.now.gate ≡ shared.now.name) × (three.now.turn ≡ None) × (four.now.turn ≡ None) × (low.now.to ≤ meaning.top_class (format_of shared.now.bytes)) × (high.now.to ≤ meaning.top_class (format_of shared.now.bytes)) }
+            requires { (three.now.gate ≡ shared.now.name) × (four.now.gate ≡ shared.now.name) × (three.now.turn ≡ None) × (four.now.turn ≡ None) }
         { run_two(rt, alloc, shared, low, high, three, four) },
     )
 }
@@ -168,7 +165,6 @@ fn run_two<R: Threads + Wait + Abort + Sync>(
 ) -> (Vec<Round>, Vec<Round>)
     requires gate { (one.old.gate ≡ shared.now.name) × (two.old.gate ≡ shared.now.name) }
     requires outside { (one.old.turn ≡ None) × (two.old.turn ≡ None) }
-    requires room { (low.now.to ≤ meaning.top_class (format_of shared.now.bytes)) × (high.now.to ≤ meaning.top_class (format_of shared.now.bytes)) }
     ensures one { one.new ≡ record one.old { seen = one.new.seen; mine = one.new.mine } }
     ensures two { two.new ≡ record two.old { seen = two.new.seen; mine = two.new.mine } }
 {
@@ -189,7 +185,6 @@ fn run<R: Wait + Abort>(
 ) -> Vec<Round>
     requires gate { pass.old.gate ≡ shared.now.name }
     requires outside { pass.old.turn ≡ None }
-    requires room { edit.now.to ≤ meaning.top_class (format_of shared.now.bytes) }
     ensures pass { pass.new ≡ record pass.old { seen = pass.new.seen; mine = pass.new.mine } }
 {
     let mut rounds = Vec::new(alloc);

@@ -28,4 +28,4 @@ returns-clause-count g c =
     count_shown c.publish-answer.result c.enter-turn.result.1 c.publish-answer.new.store c.who.result c.args.edit.now c.args.self.now.bytes c.leave.new.pass.seen
     (c.enter-turn.ensures.base ∙ ap (λ (s : SharedStore). s.bytes) c.self.view_is)
     (ap (λ (p : Passed Entry). p.seen) c.leave.ensures.pass)
-    c.publish-answer.ensures.published c.publish-answer.ensures.version c.publish-answer.ensures.count
+    c.publish-answer.ensures.published c.publish-answer.ensures.count
