@@ -8,11 +8,23 @@ use Rattle.int_camera.specs.Limits.{scale_range, near_range}
 abbrev pub IsCoordinate : ℤ → Type 0
 IsCoordinate z = (neg_ℤ (pos 2147483648) ≤ℤ z) × (z ≤ℤ pos 2147483647)
 
+-- a number of 16 bits with a sign
+abbrev pub IsPart : ℤ → Type 0
+IsPart z = (neg_ℤ (pos 32768) ≤ℤ z) × (z ≤ℤ pos 32767)
+
 -- a vector whose parts are in range
 pub record IsVector (v : Point) : Type 0 where
-  pub x : (neg_ℤ (pos 32768) ≤ℤ v.x) × (v.x ≤ℤ pos 32767)
-  pub y : (neg_ℤ (pos 32768) ≤ℤ v.y) × (v.y ≤ℤ pos 32767)
-  pub z : (neg_ℤ (pos 32768) ≤ℤ v.z) × (v.z ≤ℤ pos 32767)
+  pub x : IsPart v.x
+  pub y : IsPart v.y
+  pub z : IsPart v.z
+
+-- how often a vector may be taken in a normal: by a focal number or half a picture's size
+abbrev pub IsFactor : ℤ → Type 0
+IsFactor z = (neg_ℤ (pos (2 ^ 20)) ≤ℤ z) × (z ≤ℤ pos (2 ^ 20))
+
+-- a part of a half-space's normal: of two vectors so often
+abbrev pub IsNormal : ℤ → Type 0
+IsNormal z = (neg_ℤ (pos (2 ^ 36)) ≤ℤ z) × (z ≤ℤ pos (2 ^ 36))
 
 -- how far any point is from the eye along any vector: no further than this
 abbrev pub IsDistance : ℤ → Type 0
@@ -21,6 +33,10 @@ IsDistance z = (neg_ℤ (pos (2 ^ 49)) ≤ℤ z) × (z ≤ℤ pos (2 ^ 49))
 -- what lies within a picture, as half of 4096 pixels of 2^49 each
 abbrev pub IsReached : ℤ → Type 0
 IsReached z = (neg_ℤ (pos (2 ^ 60)) ≤ℤ z) × (z ≤ℤ pos (2 ^ 60))
+
+-- how far past the eye a half-space begins
+abbrev pub IsFar : ℤ → Type 0
+IsFar z = (neg_ℤ (pos (2 ^ 73)) ≤ℤ z) × (z ≤ℤ pos (2 ^ 73))
 
 -- a camera whose numbers are all in range
 pub record IsCamera (lens : Lens) : Type 0 where

@@ -1,6 +1,8 @@
 use crate::camera::Camera;
+use crate::half_space::{HalfSpace, half_spaces};
 use crate::numbers::{CameraLimit, CameraNumbers, Kind};
 use crate::projection::{Spot, project};
+use std::process::Abort;
 use view_base::Point;
 
 /// A camera of one pixel at the origin that looks along Z.
@@ -202,5 +204,53 @@ fn the_widest_perspective_ends_at_its_edges(rt: HostRuntime) -> Result<(), Camer
     assert_eq!(rt; widest(-63)?, Some(4064));
     assert_eq!(rt; widest(-64)?, None);
     assert_eq!(rt; widest(-32768)?, None);
+    Ok(())
+}
+
+/// The half-spaces of a camera whose numbers all differ.
+fn spaces(kind: Kind) -> Result<[HalfSpace; 6], CameraLimit> {
+    let n = [5, 3, 10, 20, 30, 1, 2, 3, 4, 5, 6, 7, 8, 9, 100, 50, 2, 6];
+    Ok(half_spaces(&Camera::new(&CameraNumbers { kind, n })?))
+}
+
+fn same(rt: &impl Abort, spaces: &[HalfSpace; 6], wanted: &[[i128; 4]; 6]) {
+    for i in 0..6 {
+        let space = spaces[i];
+        assert_eq!(rt; [space.nx, space.ny, space.nz, space.c], wanted[i]);
+    }
+}
+
+#[test]
+fn the_half_spaces_of_an_orthographic_camera(rt: HostRuntime) -> Result<(), CameraLimit> {
+    // r . e is 140, d . e is 320 and f . e is 500; a half is 2 of 5 columns and 1 of 3 rows.
+    same(
+        &rt,
+        &spaces(Kind::Ortho)?,
+        &[
+            [1, 2, 3, 140 - 200],
+            [-1, -2, -3, -140 - 300 + 1],
+            [4, 5, 6, 320 - 100],
+            [-4, -5, -6, -320 - 200 + 1],
+            [7, 8, 9, 500 + 100],
+            [-7, -8, -9, -500 - 350 + 1],
+        ],
+    );
+    Ok(())
+}
+
+#[test]
+fn the_half_spaces_of_a_camera_in_perspective(rt: HostRuntime) -> Result<(), CameraLimit> {
+    same(
+        &rt,
+        &spaces(Kind::Persp)?,
+        &[
+            [114, 216, 318, 15000],
+            [-79, -176, -273, -12500 + 1],
+            [407, 508, 609, 32500],
+            [-386, -484, -582, -31000 + 1],
+            [7, 8, 9, 500 + 100],
+            [-7, -8, -9, -500 - 350 + 1],
+        ],
+    );
     Ok(())
 }
