@@ -1,3 +1,4 @@
 pub mod Limits
 pub mod Kept
 pub mod Seen
+pub mod HalfSpaces

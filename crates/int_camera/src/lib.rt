@@ -3,11 +3,13 @@
 #![tactic(auto)]
 
 mod camera;
+mod half_space;
 mod numbers;
 mod projection;
 #[cfg(test)]
 mod tests;
 
 pub use camera::Camera;
+pub use half_space::{HalfSpace, half_spaces};
 pub use numbers::{CameraLimit, CameraNumbers, Kind};
 pub use projection::{Spot, project};

@@ -1,6 +1,8 @@
 use crate::camera::Camera;
+use crate::half_space::{HalfSpace, half_spaces};
 use crate::numbers::{CameraLimit, CameraNumbers, Kind};
 use crate::projection::{Spot, project};
+use std::process::Abort;
 use view_base::Point;
 
 /// A camera of one pixel at the origin that looks along Z.
@@ -113,4 +115,142 @@ fn the_first_number_out_of_range_is_named(rt: HostRuntime) {
             value: -1
         })
     );
+}
+
+/// A camera in perspective of two pixels at the origin that looks along Z.
+fn two_pixels() -> CameraNumbers {
+    CameraNumbers {
+        kind: Kind::Persp,
+        n: [2, 1, 0, 0, 0, 1, 0, 0, 0, 1, 0, 0, 0, 1, 1, 1, 1, 10],
+    }
+}
+
+#[test]
+fn a_column_left_of_the_middle_is_rounded_down(rt: HostRuntime) -> Result<(), CameraLimit> {
+    let camera = Camera::new(&two_pixels())?;
+    assert_eq!(rt;
+        project(&camera, Point { x: -1, y: 0, z: 2 }),
+        Some(Spot { pixel: 0, depth: 2 })
+    );
+    assert_eq!(rt; project(&camera, Point { x: 0, y: 0, z: 0 }), None);
+    assert_eq!(rt; project(&camera, Point { x: 1, y: 0, z: -2 }), None);
+    Ok(())
+}
+
+#[test]
+fn the_ranges_of_perspective_are_its_own(rt: HostRuntime) {
+    let mut numbers = two_pixels();
+    numbers.n[14] = 1048576;
+    assert_eq!(rt; limit(&numbers), None);
+    numbers.n[14] = 1048577;
+    assert_eq!(rt;
+        limit(&numbers),
+        Some(CameraLimit {
+            place: 15,
+            value: 1048577
+        })
+    );
+    let mut close = two_pixels();
+    close.n[16] = 0;
+    assert_eq!(rt;
+        limit(&close),
+        Some(CameraLimit {
+            place: 17,
+            value: 0
+        })
+    );
+}
+
+/// The column at which the widest picture shows the corner that is farthest from its eye, through a
+/// vector to the right of equal parts.
+fn widest(part: i128) -> Result<Option<u32>, CameraLimit> {
+    let eye = 2147483647;
+    let ahead = -32768;
+    let camera = Camera::new(&CameraNumbers {
+        kind: Kind::Persp,
+        n: [
+            4096,
+            2304,
+            eye,
+            eye,
+            eye,
+            part,
+            part,
+            part,
+            0,
+            0,
+            0,
+            ahead,
+            ahead,
+            ahead,
+            1048576,
+            1099511627776,
+            1,
+            4294967294,
+        ],
+    })?;
+    let corner = Point {
+        x: -2147483648,
+        y: -2147483648,
+        z: -2147483648,
+    };
+    Ok(project(&camera, corner).map(|spot| spot.pixel % 4096))
+}
+
+#[test]
+fn the_widest_perspective_ends_at_its_edges(rt: HostRuntime) -> Result<(), CameraLimit> {
+    // The distance to the right is part / -32768 of the distance ahead, and 2^20 magnifies it.
+    assert_eq!(rt; widest(64)?, Some(0));
+    assert_eq!(rt; widest(-63)?, Some(4064));
+    assert_eq!(rt; widest(-64)?, None);
+    assert_eq!(rt; widest(-32768)?, None);
+    Ok(())
+}
+
+/// The half-spaces of a camera whose numbers all differ.
+fn spaces(kind: Kind) -> Result<[HalfSpace; 6], CameraLimit> {
+    let n = [5, 3, 10, 20, 30, 1, 2, 3, 4, 5, 6, 7, 8, 9, 100, 50, 2, 6];
+    Ok(half_spaces(&Camera::new(&CameraNumbers { kind, n })?))
+}
+
+fn same(rt: &impl Abort, spaces: &[HalfSpace; 6], wanted: &[[i128; 4]; 6]) {
+    for i in 0..6 {
+        let space = spaces[i];
+        assert_eq!(rt; [space.nx, space.ny, space.nz, space.c], wanted[i]);
+    }
+}
+
+#[test]
+fn the_half_spaces_of_an_orthographic_camera(rt: HostRuntime) -> Result<(), CameraLimit> {
+    // r . e is 140, d . e is 320 and f . e is 500; a half is 2 of 5 columns and 1 of 3 rows.
+    same(
+        &rt,
+        &spaces(Kind::Ortho)?,
+        &[
+            [1, 2, 3, 140 - 200],
+            [-1, -2, -3, -140 - 300 + 1],
+            [4, 5, 6, 320 - 100],
+            [-4, -5, -6, -320 - 200 + 1],
+            [7, 8, 9, 500 + 100],
+            [-7, -8, -9, -500 - 350 + 1],
+        ],
+    );
+    Ok(())
+}
+
+#[test]
+fn the_half_spaces_of_a_camera_in_perspective(rt: HostRuntime) -> Result<(), CameraLimit> {
+    same(
+        &rt,
+        &spaces(Kind::Persp)?,
+        &[
+            [114, 216, 318, 15000],
+            [-79, -176, -273, -12500 + 1],
+            [407, 508, 609, 32500],
+            [-386, -484, -582, -31000 + 1],
+            [7, 8, 9, 500 + 100],
+            [-7, -8, -9, -500 - 350 + 1],
+        ],
+    );
+    Ok(())
 }
