@@ -40,8 +40,7 @@ impl Copies {
         ensures points { IfOk result (λ copies. copies.points.items ≡ map (point_of survey.now) copies.numbers.items) }
         ensures withheld { IfOk result (λ copies. copies.withheld.items ≡ map (withheld_of survey.now) copies.numbers.items) }
     {
-        let mut numbers = vec![in alloc; 0u32; words.len()]?;
-        write_numbers(&mut numbers, words);
+        let numbers = numbers_of(alloc, words)?;
         let mut points = vec![in alloc; Point { x: 0, y: 0, z: 0 }; words.len()]?;
         let mut withheld = vec![in alloc; false; words.len()]?;
         write_records(&mut points, &mut withheld, survey, &numbers);
@@ -51,6 +50,15 @@ impl Copies {
             withheld,
         })
     }
+}
+
+/// The number of the record that each word names.
+fn numbers_of(alloc: Global, words: &[u64]) -> Result<Vec<u32>, OutOfMemory>
+    ensures { IfOk result (λ numbers. numbers.items ≡ map (λ word. word % 2 ^ 26) words.now) }
+{
+    let mut numbers = vec![in alloc; 0u32; words.len()]?;
+    write_numbers(&mut numbers, words);
+    Ok(numbers)
 }
 
 /// Writes the number of the record that each word names.

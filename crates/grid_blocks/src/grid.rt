@@ -12,6 +12,7 @@ pub struct Grid {
     area: Box3,
     exponent: u32,
     ghost is_exponent: { IsExponent area exponent },
+    ghost small: { exponent ≤ 26 },
 }
 
 impl Grid {
@@ -31,11 +32,20 @@ impl Grid {
         ensures small { result < 2 ^ 18 }
     {
         let low = self.area.min;
-        let x = u64::from(p.x.abs_diff(low.x) >> self.exponent);
-        let y = u64::from(p.y.abs_diff(low.y) >> self.exponent);
-        let z = u64::from(p.z.abs_diff(low.z) >> self.exponent);
+        let x = cell(self.exponent, low.x, p.x);
+        let y = cell(self.exponent, low.y, p.y);
+        let z = cell(self.exponent, low.z, p.z);
         (z * 64 + y) * 64 + x
     }
+}
+
+/// The cell along one axis, from the least coordinate.
+#[inline]
+fn cell(exponent: u32, low: i32, at: i32) -> u64
+    requires { exponent ≤ 26 }
+    ensures { result ≡ grid.cell exponent low at }
+{
+    u64::from(at.abs_diff(low) >> exponent)
 }
 
 /// The greatest of the three extents of a box.

@@ -1,4 +1,4 @@
-ghost use Rattle.std.specs.Prelude.{◌≡◌, ◌+◌, ◌≤◌, List, [], ◌∷◌, ◌++◌, length, map};
+ghost use Rattle.std.specs.Prelude.{◌≡◌, ◌+◌, ◌<◌, ◌≤◌, ◌^◌, List, [], ◌∷◌, ◌++◌, length, map};
 ghost use Rattle.std.specs.Int.{int_min, int_max};
 ghost use Rattle.std.specs.List.{range_with_len};
 ghost use Rattle.grid_blocks.specs.LeastBox.{IsLeastBox};
@@ -28,6 +28,7 @@ pub(crate) fn box_of_points(points: &[Point]) -> Box3
 pub(crate) fn box_of_records(survey: &Survey, first: u32, count: u32) -> Box3
     requires some { 1 ≤ count }
     requires within { first + count ≤ record_count survey.now }
+    requires few { first + count < 2 ^ 32 }
     ensures { IsLeastBox (map (point_of survey.now) (range_with_len first count)) result }
 {
     let p = xyz(survey.point_bytes(first));
