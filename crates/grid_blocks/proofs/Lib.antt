@@ -1,3 +1,5 @@
 pub mod Boxes
 pub mod Grids
 pub mod Filling
+pub mod Cutting
+pub mod Runs
