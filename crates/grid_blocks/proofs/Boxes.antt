@@ -6,7 +6,7 @@ use Rattle.std.specs.List.{All, Any, range_with_len}
 use Rattle.std.proofs.lemmas.Int.{ints, clamps}
 use Rattle.std.proofs.lemmas.Bool.{and_parts, and_from}
 use Rattle.std.proofs.lemmas.List.{get_or_append_left, length-append, take_more}
-use Rattle.std.proofs.lemmas.List.FromFn.{map-range_with_len_more}
+use Rattle.std.proofs.lemmas.List.FromFn.{map-range_with_len_more, length-map-range_with_len, get_or-map-range_with_len}
 use Rattle.std.proofs.lemmas.List.Elements.{All-push, All-weaker, All-cons, All-nil}
 use Rattle.std.proofs.lemmas.List.Quantifiers.{Any-push}
 use lib.Signed.{le_z}
@@ -157,3 +157,10 @@ pub points_more : (b : List ℕ) (first i n m : ℕ) (p : Point) → first + n �
 points_more b first i n m p here next is =
     ap (λ (k : ℕ). map (point_of b) (range_with_len first k)) next ∙ map-range_with_len_more (point_of b) first n i here
     ∙ ap (λ (q : Point). map (point_of b) (range_with_len first n) ++ q ∷ []) (sym is)
+
+-- each record lies in the least box of the first n
+pub inside_least : (b : List ℕ) (n i : ℕ) (area : Box3) (p : Point) → IsLeastBox (map (point_of b) (range_with_len 0 n)) area → i < n → p ≡ point_of b i → IsTrue (in_box area p)
+inside_least b n i area p h lt is =
+    let long : length (map (point_of b) (range_with_len 0 n)) ≡ n = length-map-range_with_len (point_of b) 0 n in
+    let here : get_or (map (point_of b) (range_with_len 0 n)) i p ≡ p = get_or-map-range_with_len (point_of b) 0 n i i p lt (omega arith) ∙ sym is in
+    subst (λ (q : Point). IsTrue (in_box area q)) here (h.within i p (omega (arith, lt, long)))

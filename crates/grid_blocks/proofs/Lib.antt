@@ -3,3 +3,5 @@ pub mod Grids
 pub mod Filling
 pub mod Cutting
 pub mod Runs
+pub mod Once
+pub mod Orders

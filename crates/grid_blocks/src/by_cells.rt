@@ -1,4 +1,4 @@
-ghost use Rattle.std.specs.Prelude.{◌≡◌, ℕ, ◌+◌, ◌/◌, ◌<◌, ◌≤◌, ◌^◌, ◌≢◌, All, IfOk, IsSome, List, OnOk, [], length, map, slice_index};
+ghost use Rattle.std.specs.Prelude.{◌≡◌, ℕ, ◌+◌, ◌/◌, ◌%◌, ◌<◌, ◌≤◌, ◌^◌, ◌≢◌, All, IfOk, IsSome, List, OnOk, [], length, map, slice_index};
 ghost use Rattle.std.specs.List.{range_with_len};
 ghost use Rattle.grid_blocks.specs.Blocks.{IsBlocks, IsCut, part};
 ghost use Rattle.grid_blocks.specs.Cells.{IsByCells, IsRun};
@@ -32,23 +32,43 @@ pub fn build(alloc: Global, survey: &Survey) -> Result<Blocks, OutOfMemory>
     if survey.records() == 0 {
         return Ok(Blocks::none(alloc));
     }
+    build_some(alloc, survey)
+}
+
+/// The blocks by cells of a survey with records.
+fn build_some(alloc: Global, survey: &Survey) -> Result<Blocks, OutOfMemory>
+    requires { 1 ≤ record_count survey.now }
+    ensures blocks { IfOk result (IsBlocks survey.now) }
+    ensures cells { IfOk result (IsByCells survey.now) }
+    ensures held { IfOk result (λ blocks. IsSome blocks.copies) }
+{
     let words = order(alloc, survey)?;
     let copies = Copies::of(alloc, survey, &words)?;
-    let mut list = Listing::new(alloc);
-    list.reserve(words.len().min((1 << 18) + words.len() / MOST))?;
-    cut(&words, &copies.points, &mut list)?;
+    let list = blocks_of(alloc, &words, &copies.points)?;
     Ok(Blocks::of_copies(list, copies))
 }
 
 /// The words of all records, rising: each has the key of a record's cell above its number.
 fn order(alloc: Global, survey: &Survey) -> Result<Vec<u64>, OutOfMemory>
     requires { 1 ≤ record_count survey.now }
-    ensures { IfOk result (λ words. IsOrder survey.now words.items) }
+    ensures order { IfOk result (λ words. IsOrder survey.now words.items) }
+    ensures size { IfOk result (λ words. length words.items ≡ record_count survey.now) }
+    ensures numbers { IfOk result (λ words. All (λ word. word % 2 ^ 26 < record_count survey.now) words.items) }
+    ensures few { record_count survey.now ≤ 53687091 }
 {
     let grid = Grid::of(box_of_records(survey, 0, survey.records()));
-    let mut words = vec![in alloc; 0u64; survey.records() as usize]?;
-    write_words(&mut words, survey, &grid);
+    let mut words = words_of(alloc, survey, &grid)?;
     words.sort_unstable();
+    Ok(words)
+}
+
+/// The word of each record, in the order of numbers.
+fn words_of(alloc: Global, survey: &Survey, grid: &Grid) -> Result<Vec<u64>, OutOfMemory>
+    requires { IsLeastBox (map (point_of survey.now) (range_with_len 0 (record_count survey.now))) grid.now.area }
+    ensures { IfOk result (λ words. words.items ≡ map (word_of survey.now grid.now.area grid.now.exponent) (range_with_len 0 (record_count survey.now))) }
+{
+    let mut words = vec![in alloc; 0u64; survey.records() as usize]?;
+    write_words(&mut words, survey, grid);
     Ok(words)
 }
 
@@ -62,6 +82,25 @@ fn write_words(words: &mut [u64], survey: &Survey, grid: &Grid)
         let key = grid.key(xyz(survey.point_bytes(i)));
         words[i as usize] = (key << NUMBER_BITS) + u64::from(i);
     }
+}
+
+/// The blocks of records with these words at these points. There are at most 2^18 keys, so that
+/// the room for the blocks is made once.
+fn blocks_of(
+    alloc: Global,
+    words: &[u64],
+    points: &[Point],
+) -> Result<Listing<Block>, OutOfMemory>
+    requires size { length points.now ≡ length words.now }
+    requires few { length words.now < 2 ^ 32 }
+    ensures cut { IfOk result (λ list. IsCut list.items (length words.now)) }
+    ensures areas { IfOk result (λ list. All (λ block. IsLeastBox (part block points.now) block.area) list.items) }
+    ensures runs { IfOk result (λ list. All (IsRun (λ place. slice_index words.now place / 2 ^ 26) (length words.now)) list.items) }
+{
+    let mut list = Listing::new(alloc);
+    list.reserve(words.len().min((1 << 18) + words.len() / MOST))?;
+    cut(words, points, &mut list)?;
+    Ok(list)
 }
 
 /// Appends the blocks of records with these words at these points.
