@@ -1,6 +1,6 @@
 -- What words in order say of the blocks that are cut from them.
-use Rattle.std.proofs.Common.{◌≡◌, ◌≢◌, ℕ, ◌+◌, ◌-◌, ◌*◌, ◌/◌, ◌%◌, ◌^◌, ◌<◌, ◌≤◌, List, [], ◌∷◌, length, get_or, take, drop, map, Some, inl, inr, refl, sym, ◌∙◌, ap, subst, arith}
-use Rattle.std.specs.Prelude.{◌⊎◌, IsTrue, IfSome}
+use Rattle.std.proofs.Common.{◌≡◌, ◌≢◌, ℕ, ◌+◌, ◌-◌, ◌*◌, ◌/◌, ◌%◌, ◌^◌, ◌<◌, ◌≤◌, List, [], ◌∷◌, length, get_or, take, drop, map, inl, inr, refl, sym, ◌∙◌, ap, subst, arith}
+use Rattle.std.specs.Prelude.{◌⊎◌, IfSome, Option, Some, None, Bool}
 use Rattle.std.specs.List.{All, AllPairs, range_with_len, drop-map}
 use Rattle.std.specs.List.Sorted.{IsPermutation, IsNonDecreasing, IsSorted}
 use Rattle.std.specs.Ordering.{nat_cmp}
@@ -8,7 +8,7 @@ use Rattle.std.proofs.lemmas.Bool.{cases_lt}
 use Rattle.std.proofs.lemmas.List.{same_lists, length-map, get_or-map, get_or_default, take-map}
 use Rattle.std.proofs.lemmas.List.FromFn.{length-range_with_len, get_or-range_with_len, get_or-map-range_with_len, length-map-range_with_len}
 use Rattle.std.proofs.lemmas.List.Elements.{All-map}
-use Rattle.std.proofs.lemmas.List.Sorted.{All-permutation, IsPermutation-map, length_permutation, IsNonDecreasingBy-from_sort}
+use Rattle.std.proofs.lemmas.List.Sorted.{All-permutation, IsPermutation-map, IsPermutation-refl, length_permutation, IsNonDecreasingBy-from_sort}
 use Rattle.view_base.specs.declared.place.Point.{Point}
 use Rattle.view_base.specs.declared.place.Box3.{Box3}
 use Rattle.view_meaning.specs.Survey.{record_count, point_of, withheld_of}
@@ -18,9 +18,9 @@ use Rattle.grid_blocks.specs.LeastBox.{IsLeastBox}
 use Rattle.grid_blocks.specs.Grid.{IsExponent, key}
 use Rattle.grid_blocks.specs.Order.{IsOrder, word_of}
 use Rattle.grid_blocks.specs.Cells.{IsRun, IsByCells, Precedes}
-use Rattle.grid_blocks.specs.Blocks.{Blocked, IsCut, IsBlocks, IsCopied, part}
+use Rattle.grid_blocks.specs.Blocks.{Blocked, Copied, IsCut, IsBlocks, IsCopied, part}
 use Rattle.grid_blocks.proofs.Cutting.{follow_within}
-use Rattle.grid_blocks.proofs.Once.{once-apart, length-once}
+use Rattle.grid_blocks.proofs.Once.{once-apart, part-range}
 
 -- the number that a word has
 abbrev pub number_of : ℕ → ℕ
@@ -168,3 +168,41 @@ built_by_cells b words blocked h =
 
 pub numbers_below : (b words : List ℕ) → record_count b ≤ 2 ^ 26 → IsOrder b words → All (λ word. word % 2 ^ 26 < record_count b) words
 numbers_below b words few o = λ k d lt. (words_are b words o few k d lt).below
+
+-- the parts of blocks by cells
+pub built_of : (b words first_words cut_words : List ℕ) (points : List Point) (blocks : List Block) (blocked : Blocked) → IsOrder b words → record_count b ≤ 53687091 → first_words ≡ words → cut_words ≡ words → blocked.blocks ≡ blocks
+    → blocked.members ≡ map number_of first_words → points ≡ map (point_of b) blocked.members → IsCut blocks (length cut_words) → All (λ block. IsLeastBox (part block points) block.area) blocks
+    → All (IsRun (λ place. get_or cut_words place 0 / 2 ^ 26) (length cut_words)) blocks → IsBuilt b words blocked
+built_of b words first_words cut_words points blocks blocked order few first_is cut_is blocks_are members_are points_are cut areas runs = record {
+  order = order;
+  few = omega (arith, few);
+  members = members_are ∙ ap (map number_of) first_is;
+  cut = subst (λ (l : List ℕ). IsCut blocked.blocks (length l)) cut_is (subst (λ (l : List Block). IsCut l (length cut_words)) (sym blocks_are) cut);
+  areas = subst (λ (l : List Block). All (λ block. IsLeastBox (part block (map (point_of b) blocked.members)) block.area) l) (sym blocks_are)
+      (subst (λ (l : List Point). All (λ block. IsLeastBox (part block l) block.area) blocks) points_are areas);
+  runs = subst (λ (l : List ℕ). All (IsRun (λ place. get_or l place 0 / 2 ^ 26) (length l)) blocked.blocks) cut_is
+      (subst (λ (l : List Block). All (IsRun (λ place. get_or cut_words place 0 / 2 ^ 26) (length cut_words)) l) (sym blocks_are) runs);
+}
+
+-- copies of the records at their places
+pub copied : (b members : List ℕ) (copies : Option Copied) (points : List Point) (bits : List Bool) → copies ≡ Some (record { points = points; withheld = bits }) → points ≡ map (point_of b) members → bits ≡ map (withheld_of b) members → IfSome copies (IsCopied b members)
+copied b members copies points bits is points_are bits_are =
+    subst (λ (o : Option Copied). IfSome o (IsCopied b members)) (sym is) (record { points = points_are; withheld = bits_are })
+
+-- blocks in the order of numbers
+pub numbered : (b : List ℕ) (blocks : List Block) (blocked : Blocked) → blocked.blocks ≡ blocks → blocked.members ≡ range_with_len 0 (record_count b) → blocked.copies ≡ None → IsCut blocks (record_count b)
+    → All (λ block. IsLeastBox (map (point_of b) (range_with_len block.first block.count)) block.area) blocks → IsBlocks b blocked
+numbered b blocks blocked blocks_are members_are none cut areas =
+    let n = record_count b in
+    let cut_here : IsCut blocked.blocks n = subst (λ (l : List Block). IsCut l n) (sym blocks_are) cut in
+    let areas_here : All (λ block. IsLeastBox (map (point_of b) (range_with_len block.first block.count)) block.area) blocked.blocks =
+    subst (λ (l : List Block). All (λ block. IsLeastBox (map (point_of b) (range_with_len block.first block.count)) block.area) l) (sym blocks_are) areas in
+    record {
+      members = subst (λ (l : List ℕ). IsPermutation (range_with_len 0 n) l) (sym members_are) (IsPermutation-refl (range_with_len 0 n));
+      cut = cut_here;
+      areas = λ k d lt.
+          let block : Block = get_or blocked.blocks k d in
+          subst (λ (l : List ℕ). IsLeastBox (map (point_of b) l) block.area)
+          (sym (ap (λ (l : List ℕ). part block l) members_are ∙ part-range n block.first block.count (follow_within 0 blocked.blocks n cut_here.follow k d lt))) (areas_here k d lt);
+      copies = subst (λ (o : Option Copied). IfSome o (IsCopied b blocked.members)) (sym none) tt;
+    }
