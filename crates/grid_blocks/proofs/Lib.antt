@@ -5,3 +5,4 @@ pub mod Cutting
 pub mod Runs
 pub mod Once
 pub mod Orders
+pub mod Kept

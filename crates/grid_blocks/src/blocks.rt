@@ -20,20 +20,20 @@ pub struct Blocks {
 }
 
 impl Model for Blocks {
-    ghost use Rattle.std.specs.Prelude.{◌≡◌, length};
+    ghost use Rattle.std.specs.Prelude.{◌≡◌, ◌<◌, ◌^◌, length};
     ghost use Rattle.grid_blocks.specs.Blocks.{Blocked, IsCut, copied_of, members_of};
 
     ghost Value = { Blocked };
 
     ghost view = { λ a. record { blocks = a.list.items; members = members_of a.records a.copies; copies = copied_of a.copies } };
 
-    ghost invariant = { λ a. (IsCut a.list.items a.records) × (length (members_of a.records a.copies) ≡ a.records) };
+    ghost invariant = { λ a. (IsCut a.list.items a.records) × (length (members_of a.records a.copies) ≡ a.records) × (a.records < 2 ^ 32) };
 }
 
 impl Blocks {
     /// No blocks of no records.
     pub(crate) fn none(alloc: Global) -> Blocks
-        ensures blocks { result.blocks ≡ [] }
+        ensures list { result.blocks ≡ [] }
         ensures members { result.members ≡ [] }
         ensures copies { result.copies ≡ Some (record { points = []; withheld = [] }) }
     {
@@ -48,7 +48,7 @@ impl Blocks {
     pub(crate) fn of_copies(list: Listing<Block>, copies: Copies) -> Blocks
         requires few { length copies.numbers.items < 2 ^ 32 }
         requires cut { IsCut list.items (length copies.numbers.items) }
-        ensures blocks { result.blocks ≡ list.items }
+        ensures list { result.blocks ≡ list.items }
         ensures members { result.members ≡ copies.numbers.items }
         ensures copies { result.copies ≡ Some (record { points = copies.points.items; withheld = copies.withheld.items }) }
     {
@@ -63,7 +63,7 @@ impl Blocks {
     /// Blocks of so many records in the order of numbers.
     pub(crate) fn of_numbers(list: Listing<Block>, records: u32) -> Blocks
         requires { IsCut list.items records }
-        ensures blocks { result.blocks ≡ list.items }
+        ensures list { result.blocks ≡ list.items }
         ensures members { result.members ≡ range_with_len 0 records }
         ensures copies { result.copies ≡ None }
     {
@@ -88,6 +88,7 @@ impl Blocks {
         requires { k < length self.now.blocks }
         ensures block { slice_get self.now.blocks k ≡ Some result.now }
         ensures within { result.now.first + result.now.count ≤ length self.now.members }
+        ensures small { length self.now.members < 2 ^ 32 }
     {
         self.list.at(k as usize)
     }
@@ -113,15 +114,9 @@ impl Blocks {
         ensures withheld { IfSome result (λ records. (b : List ℕ) → IsBlocks b self.now → records.withheld.now ≡ map (withheld_of b) records.numbers.now) }
         ensures none { IfNone result (self.now.members ≡ range_with_len 0 (length self.now.members)) }
     {
-        let block = *self.list.at(k as usize);
-        let first = block.first as usize;
-        let end = first + block.count as usize;
+        let block = self.list.at(k as usize);
         match &self.copies {
-            Some(copies) => Some(BlockRecords {
-                numbers: &copies.numbers[first..end],
-                points: &copies.points[first..end],
-                withheld: &copies.withheld[first..end],
-            }),
+            Some(copies) => Some(copies.part(block.first as usize, block.count as usize)),
             None => None,
         }
     }

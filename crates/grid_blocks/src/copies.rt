@@ -1,6 +1,7 @@
-ghost use Rattle.std.specs.Prelude.{◌≡◌, ◌<◌, ◌%◌, ◌^◌, List, [], All, IfOk, length, map, slice_get};
+ghost use Rattle.std.specs.Prelude.{◌≡◌, ◌<◌, ◌%◌, ◌+◌, ◌≤◌, ◌^◌, [], All, IfOk, drop, length, map, take};
 ghost use Rattle.view_meaning.specs.Survey.{point_of, record_count, withheld_of};
 
+use crate::block::BlockRecords;
 use las_points::{withheld, xyz};
 use las_survey::Survey;
 use std::alloc::Global;
@@ -49,6 +50,21 @@ impl Copies {
             points,
             withheld,
         })
+    }
+
+    /// So many records from a place on.
+    pub(crate) fn part(&self, first: usize, count: usize) -> BlockRecords<'_>
+        requires { first + count ≤ length self.now.numbers.items }
+        ensures numbers { result.numbers.now ≡ take count (drop first self.now.numbers.items) }
+        ensures points { result.points.now ≡ take count (drop first self.now.points.items) }
+        ensures withheld { result.withheld.now ≡ take count (drop first self.now.withheld.items) }
+    {
+        let end = first + count;
+        BlockRecords {
+            numbers: &self.numbers[first..end],
+            points: &self.points[first..end],
+            withheld: &self.withheld[first..end],
+        }
     }
 }
 
