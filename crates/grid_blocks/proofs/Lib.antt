@@ -6,3 +6,4 @@ pub mod Runs
 pub mod Once
 pub mod Orders
 pub mod Kept
+pub mod Laws
