@@ -1,9 +1,9 @@
 -- The least box of some points, and of one point more.
-use Rattle.std.proofs.Common.{◌≡◌, ℕ, ℤ, ◌+◌, ◌<◌, ◌≤◌, ◌&&◌, Bool, true, List, [], ◌∷◌, ◌++◌, length, get_or, take, map, inl, inr, refl, sym, ◌∙◌, ap, subst, arith}
+use Rattle.std.proofs.Common.{◌≡◌, ℕ, ℤ, ◌+◌, ◌<◌, ◌≤◌, ◌&&◌, true, List, [], ◌∷◌, ◌++◌, length, get_or, take, map, inl, inr, refl, sym, ◌∙◌, ap, subst, arith}
 use Rattle.std.specs.Prelude.{◌⊎◌, IsTrue}
 use Rattle.std.specs.Int.{int_min, int_max}
-use Rattle.std.specs.List.{All, Any, range_with_len}
-use Rattle.std.proofs.lemmas.Int.{ints, clamps}
+use Rattle.std.specs.List.{Any, range_with_len}
+use Rattle.std.proofs.lemmas.Int.{ints}
 use Rattle.std.proofs.lemmas.Bool.{and_parts, and_from}
 use Rattle.std.proofs.lemmas.List.{get_or_append_left, length-append, take_more}
 use Rattle.std.proofs.lemmas.List.FromFn.{map-range_with_len_more, length-map-range_with_len, get_or-map-range_with_len}
@@ -126,13 +126,13 @@ least_box_one p low high at_low at_high =
     subst (λ (l : Point). IsLeastBox (p ∷ []) (record { min = l; max = high })) (sym at_low)
     (subst (λ (h : Point). IsLeastBox (p ∷ []) (record { min = p; max = h })) (sym at_high) (record {
       within = All-cons (λ q. IsTrue (in_box (record { min = p; max = p }) q)) p [] (in_box-from_inside (record { min = p; max = p }) p (record {
-            above_x = le_z-same p.x;
-            below_x = le_z-same p.x;
-            above_y = le_z-same p.y;
-            below_y = le_z-same p.y;
-            above_z = le_z-same p.z;
-            below_z = le_z-same p.z;
-          })) (All-nil _);
+        above_x = le_z-same p.x;
+        below_x = le_z-same p.x;
+        above_y = le_z-same p.y;
+        below_y = le_z-same p.y;
+        above_z = le_z-same p.z;
+        below_z = le_z-same p.z;
+      })) (All-nil _);
       min_x = alone (λ q. q.x ≡ p.x) p refl;
       min_y = alone (λ q. q.y ≡ p.y) p refl;
       min_z = alone (λ q. q.z ≡ p.z) p refl;

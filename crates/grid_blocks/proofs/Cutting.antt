@@ -1,10 +1,10 @@
 -- Blocks that follow each other.
-use Rattle.std.proofs.Common.{◌≡◌, ℕ, zero, suc, ◌+◌, ◌-◌, ◌<◌, ◌≤◌, List, [], ◌∷◌, ◌++◌, length, get_or, take, drop, Some, None, inl, inr, refl, sym, ◌∙◌, ap, subst, arith}
-use Rattle.std.specs.Prelude.{slice_get, Option}
+use Rattle.std.proofs.Common.{◌≡◌, ℕ, zero, suc, ◌+◌, ◌<◌, ◌≤◌, List, [], ◌∷◌, ◌++◌, length, get_or, Some, sym, ◌∙◌, arith}
+use Rattle.std.specs.Prelude.{slice_get}
 use Rattle.std.specs.List.{All}
 use Rattle.std.proofs.lemmas.List.Elements.{All-head, All-tail}
 use Rattle.grid_blocks.specs.declared.block.Block.{Block}
-use Rattle.grid_blocks.specs.Blocks.{Follow, IsCut}
+use Rattle.grid_blocks.specs.Blocks.{Follow}
 
 -- one block more
 pub follow_more : (at : ℕ) (blocks : List Block) (mid end : ℕ) (block : Block) → Follow at blocks mid → block.first ≡ mid → end ≡ mid + block.count → Follow at (blocks ++ block ∷ []) end

@@ -1,6 +1,6 @@
 -- Cells of a grid.
-use Rattle.std.proofs.Common.{◌≡◌, ℕ, ℤ, ◌+◌, ◌*◌, ◌/◌, ◌^◌, ◌<◌, ◌≤◌, max, ◌-ℤ◌, true, inl, inr, refl, sym, ◌∙◌, ap, subst, arith, w32, to_z, of_z, FitsSigned}
-use Rattle.std.proofs.lemmas.Int.{ints, clamps, to_z-of_z}
+use Rattle.std.proofs.Common.{◌≡◌, ℕ, ℤ, ◌+◌, ◌*◌, ◌/◌, ◌^◌, ◌<◌, ◌≤◌, ◌-ℤ◌, true, ◌∙◌, ap, arith, w32, to_z, of_z, FitsSigned}
+use Rattle.std.proofs.lemmas.Int.{ints, to_z-of_z}
 use Rattle.std.proofs.Math.Nat.{div-lt_iff_lt-mul}
 use Rattle.std.proofs.lemmas.Nat.{pow_pos}
 use Rattle.std.specs.Int.RustNames.{unsigned_abs}
@@ -10,7 +10,7 @@ use Rattle.view_base.specs.declared.place.Point.{Point}
 use Rattle.view_base.specs.declared.place.Box3.{Box3}
 use Rattle.view_meaning.specs.Classes.{in_box}
 use Rattle.grid_blocks.specs.Grid.{IsExponent, extent, cell, key}
-use Rattle.grid_blocks.proofs.Boxes.{IsInside, inside-from_box}
+use Rattle.grid_blocks.proofs.Boxes.{inside-from_box}
 
 abs_le : (low at high : ℤ) → le_z low at ≡ true → le_z at high ≡ true → unsigned_abs (at -ℤ low) ≤ unsigned_abs (high -ℤ low)
 abs_le low at high from to = grind (arith, ints)

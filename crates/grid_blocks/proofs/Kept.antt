@@ -1,11 +1,9 @@
 -- What blocks keep of their places.
-use Rattle.std.proofs.Common.{◌≡◌, ℕ, ◌+◌, ◌<◌, ◌≤◌, List, length, get_or, take, drop, map, refl, sym, ◌∙◌, ap, subst, arith}
-use Rattle.std.specs.Prelude.{slice_get, Option, Some, None, Bool, IfSome}
+use Rattle.std.proofs.Common.{◌≡◌, ℕ, ◌+◌, ◌<◌, ◌≤◌, List, length, get_or, take, drop, map, sym, ◌∙◌, ap, subst, arith}
+use Rattle.std.specs.Prelude.{slice_get, Option, Some, None, IfSome}
 use Rattle.std.specs.List.{range_with_len, drop-map}
 use Rattle.std.proofs.lemmas.List.{take-map}
 use Rattle.std.proofs.lemmas.List.FromFn.{get_or-range_with_len, length-range_with_len}
-use Rattle.view_base.specs.declared.place.Point.{Point}
-use Rattle.view_meaning.specs.Survey.{point_of, withheld_of}
 use Rattle.grid_blocks.specs.declared.block.Block.{Block}
 use Rattle.grid_blocks.specs.declared.copies.Copies.{Copies}
 use Rattle.grid_blocks.specs.Blocks.{Copied, IsCut, IsCopied, part, members_of, copied_of}
@@ -20,6 +18,12 @@ pub cut_within : (blocks : List Block) (places k : ℕ) (block : Block) → IsCu
 cut_within blocks places k block cut lt is =
     let here : get_or blocks k block ≡ block = get_or-from_slice_get blocks k block block is in
     subst (λ (x : Block). x.first + x.count ≤ places) here (follow_within 0 blocks places cut.follow k block lt)
+
+-- a block has 1 to 1024 places
+pub cut_sizes : (blocks : List Block) (places k : ℕ) (block : Block) → IsCut blocks places → k < length blocks → slice_get blocks k ≡ Some block → (1 ≤ block.count) × (block.count ≤ 1024)
+cut_sizes blocks places k block cut lt is =
+    let here : get_or blocks k block ≡ block = get_or-from_slice_get blocks k block block is in
+    subst (λ (x : Block). (1 ≤ x.count) × (x.count ≤ 1024)) here (cut.sizes k block lt)
 
 -- without copies the record at a place is that of this number
 pub member_is_place : (records place : ℕ) (copies : Option Copies) (members : List ℕ) → copies ≡ None → members_of records copies ≡ members → place < length members → place ≡ get_or members place 0

@@ -1,6 +1,6 @@
 -- Lists that have each number below a bound once.
-use Rattle.std.proofs.Common.{◌≡◌, ◌≢◌, ℕ, zero, suc, ◌+◌, ◌-◌, ◌<◌, ◌≤◌, ◌==◌, cond, true, false, List, [], ◌∷◌, length, get_or, take, drop, map, inl, inr, refl, sym, ◌∙◌, ap, subst, arith}
-use Rattle.std.specs.List.{range_with_len, sum_by, All, Contains}
+use Rattle.std.proofs.Common.{◌≡◌, ◌≢◌, ℕ, zero, suc, ◌+◌, ◌-◌, ◌<◌, ◌≤◌, ◌==◌, cond, List, [], ◌∷◌, length, get_or, take, drop, inl, inr, refl, sym, ◌∙◌, arith}
+use Rattle.std.specs.List.{range_with_len, sum_by, Contains}
 use Rattle.std.specs.List.Sorted.{IsPermutation}
 use Rattle.std.proofs.lemmas.Bool.{cases_lt}
 use Rattle.std.proofs.lemmas.Bool.Decides.{nat_tests}
@@ -40,13 +40,13 @@ times-range v a (suc n) = elim (cases_lt v a) [
   | inl below ↦ let none : times v (range_with_len a (suc n)) ≡ 0 = times-range_below v a (suc n) below in omega (arith, none)
   | inr least ↦ elim (cases_lt a v) [
     | inl above ↦
-      let here : counted v a ≡ 0 = no_time a v (omega arith) in
-      let rest : times v (range_with_len (a + 1) n) ≤ 1 = times-range v (a + 1) n in
-      omega (arith, here, rest, times-cons v a (range_with_len (a + 1) n))
+        let here : counted v a ≡ 0 = no_time a v (omega arith) in
+        let rest : times v (range_with_len (a + 1) n) ≤ 1 = times-range v (a + 1) n in
+        omega (arith, here, rest, times-cons v a (range_with_len (a + 1) n))
     | inr most ↦
-      let here : counted v a ≡ 1 = one_time a v (omega arith) in
-      let rest : times v (range_with_len (a + 1) n) ≡ 0 = times-range_below v (a + 1) n (omega arith) in
-      omega (arith, here, rest, times-cons v a (range_with_len (a + 1) n))
+        let here : counted v a ≡ 1 = one_time a v (omega arith) in
+        let rest : times v (range_with_len (a + 1) n) ≡ 0 = times-range_below v (a + 1) n (omega arith) in
+        omega (arith, here, rest, times-cons v a (range_with_len (a + 1) n))
   ]
 ]
 

@@ -1,8 +1,8 @@
 -- What words in order say of the blocks that are cut from them.
-use Rattle.std.proofs.Common.{◌≡◌, ◌≢◌, ℕ, ◌+◌, ◌-◌, ◌*◌, ◌/◌, ◌%◌, ◌^◌, ◌<◌, ◌≤◌, List, [], ◌∷◌, length, get_or, take, drop, map, inl, inr, refl, sym, ◌∙◌, ap, subst, arith}
+use Rattle.std.proofs.Common.{◌≡◌, ◌≢◌, ℕ, ◌+◌, ◌*◌, ◌/◌, ◌%◌, ◌^◌, ◌<◌, ◌≤◌, List, length, get_or, take, drop, map, inl, inr, sym, ◌∙◌, ap, subst, arith}
 use Rattle.std.specs.Prelude.{◌⊎◌, IfSome, Option, Some, None, Bool}
 use Rattle.std.specs.List.{All, AllPairs, range_with_len, drop-map}
-use Rattle.std.specs.List.Sorted.{IsPermutation, IsNonDecreasing, IsSorted}
+use Rattle.std.specs.List.Sorted.{IsPermutation, IsSorted}
 use Rattle.std.specs.Ordering.{nat_cmp}
 use Rattle.std.proofs.lemmas.Bool.{cases_lt}
 use Rattle.std.proofs.lemmas.List.{same_lists, length-map, get_or-map, get_or_default, take-map}
@@ -12,7 +12,6 @@ use Rattle.std.proofs.lemmas.List.Sorted.{All-permutation, IsPermutation-map, Is
 use Rattle.view_base.specs.declared.place.Point.{Point}
 use Rattle.view_base.specs.declared.place.Box3.{Box3}
 use Rattle.view_meaning.specs.Survey.{record_count, point_of, withheld_of}
-use Rattle.view_meaning.specs.Classes.{in_box}
 use Rattle.grid_blocks.specs.declared.block.Block.{Block}
 use Rattle.grid_blocks.specs.LeastBox.{IsLeastBox}
 use Rattle.grid_blocks.specs.Grid.{IsExponent, key}

@@ -89,6 +89,8 @@ impl Blocks {
         ensures block { slice_get self.now.blocks k ≡ Some result.now }
         ensures within { result.now.first + result.now.count ≤ length self.now.members }
         ensures small { length self.now.members < 2 ^ 32 }
+        ensures some { 1 ≤ result.now.count }
+        ensures few { result.now.count ≤ 1024 }
     {
         self.list.at(k as usize)
     }

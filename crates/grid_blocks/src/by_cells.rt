@@ -86,11 +86,7 @@ fn write_words(words: &mut [u64], survey: &Survey, grid: &Grid)
 
 /// The blocks of records with these words at these points. There are at most 2^18 keys, so that
 /// the room for the blocks is made once.
-fn blocks_of(
-    alloc: Global,
-    words: &[u64],
-    points: &[Point],
-) -> Result<Listing<Block>, OutOfMemory>
+fn blocks_of(alloc: Global, words: &[u64], points: &[Point]) -> Result<Listing<Block>, OutOfMemory>
     requires size { length points.now ≡ length words.now }
     requires few { length words.now < 2 ^ 32 }
     ensures cut { IfOk result (λ list. IsCut list.items (length words.now)) }

@@ -1,9 +1,9 @@
-use crate::{BlockRecords, Blocks, build, build_by_number};
+use crate::{Blocks, build, build_by_number};
 use las_survey::{Survey, load};
 use std::alloc::Global;
 use std::process::Abort;
 use std::test::Fail;
-use view_base::{Box3, Bytes, OutOfMemory, Point};
+use view_base::{Bytes, OutOfMemory, Point};
 use view_ends::StillSource;
 
 const LEAST: i32 = i32::MIN;
@@ -47,11 +47,11 @@ fn append_record(bytes: &mut Bytes, [x, y, z]: [i32; 3]) -> Result<(), OutOfMemo
     bytes.append(&[0; 4])
 }
 
-/// A survey of so many records at one place, and then records at these.
-fn survey(alloc: Global, same: u32, others: &[[i32; 3]]) -> Result<Survey, Fail> {
+/// A survey of so many records: first records at one place, and then records at these.
+fn survey(alloc: Global, records: u32, others: &[[i32; 3]]) -> Result<Survey, Fail> {
     let mut bytes = Bytes::new(alloc);
-    append_header(&mut bytes, same + others.len() as u32)?;
-    for _ in 0..same {
+    append_header(&mut bytes, records)?;
+    for _ in others.len()..records as usize {
         append_record(&mut bytes, [0, 0, 5])?;
     }
     for place in others {
@@ -60,70 +60,80 @@ fn survey(alloc: Global, same: u32, others: &[[i32; 3]]) -> Result<Survey, Fail>
     Ok(load(alloc, &mut StillSource::new(bytes))?)
 }
 
-/// The box of one point on the X axis at height 5.
-fn at(x: i32) -> Box3 {
-    let p = Point { x, y: 0, z: 5 };
-    Box3 { min: p, max: p }
-}
-
-/// Blocks have these first places and counts.
-fn ranges(rt: &impl Abort, blocks: &Blocks, wanted: &[(u32, u32)]) {
+/// Blocks have these first places, counts and first members.
+fn blocks_are(rt: &impl Abort, blocks: &Blocks, wanted: &[[u32; 3]]) {
     assert_eq!(rt; blocks.count() as usize, wanted.len());
     for k in 0..blocks.count() {
         let block = blocks.block(k);
-        assert_eq!(rt; (block.first, block.count), wanted[k as usize]);
+        let member = blocks.member(block.first);
+        assert_eq!(rt; [block.first, block.count, member], wanted[k as usize]);
     }
+}
+
+/// The blocks by cells of a survey are these.
+fn by_cells(
+    rt: &impl Abort,
+    alloc: Global,
+    survey: &Survey,
+    wanted: &[[u32; 3]],
+) -> Result<(), Fail> {
+    let blocks = build(alloc, survey)?;
+    blocks_are(rt, &blocks, wanted);
+    Ok(())
+}
+
+/// The blocks by number of a survey are these.
+fn by_number(
+    rt: &impl Abort,
+    alloc: Global,
+    survey: &Survey,
+    wanted: &[[u32; 3]],
+) -> Result<(), Fail> {
+    let blocks = build_by_number(alloc, survey)?;
+    blocks_are(rt, &blocks, wanted);
+    Ok(())
 }
 
 #[test]
 fn a_second_cell_begins_a_block(rt: HostRuntime) -> Result<(), Fail> {
-    let survey = survey(rt.alloc(), 1024, &[[5000, 0, 5]])?;
-    for blocks in [
-        build(rt.alloc(), &survey)?,
-        build_by_number(rt.alloc(), &survey)?,
-    ] {
-        ranges(&rt, &blocks, &[(0, 1024), (1024, 1)]);
-        assert_eq!(rt; blocks.block(0).area, at(0));
-        assert_eq!(rt; blocks.block(1).area, at(5000));
-        assert_eq!(rt; blocks.member(1024), 1024);
-    }
-    Ok(())
+    let survey = survey(rt.alloc(), 1025, &[[5000, 0, 5]])?;
+    by_cells(&rt, rt.alloc(), &survey, &[[0, 1024, 0], [1024, 1, 1024]])?;
+    by_number(&rt, rt.alloc(), &survey, &[[0, 1024, 0], [1024, 1, 1024]])
 }
 
 #[test]
 fn a_cell_is_cut_into_blocks_of_1024(rt: HostRuntime) -> Result<(), Fail> {
     let survey = survey(rt.alloc(), 2049, &[])?;
-    let wanted = [(0, 1024), (1024, 1024), (2048, 1)];
-    ranges(&rt, &build(rt.alloc(), &survey)?, &wanted);
-    ranges(&rt, &build_by_number(rt.alloc(), &survey)?, &wanted);
-    Ok(())
+    let wanted = [[0, 1024, 0], [1024, 1024, 1024], [2048, 1, 2048]];
+    by_cells(&rt, rt.alloc(), &survey, &wanted)?;
+    by_number(&rt, rt.alloc(), &survey, &wanted)
 }
 
 #[test]
 fn no_records_have_no_blocks(rt: HostRuntime) -> Result<(), Fail> {
     let survey = survey(rt.alloc(), 0, &[])?;
-    assert_eq!(rt; build(rt.alloc(), &survey)?.count(), 0);
-    assert_eq!(rt; build_by_number(rt.alloc(), &survey)?.count(), 0);
-    Ok(())
+    by_cells(&rt, rt.alloc(), &survey, &[])?;
+    by_number(&rt, rt.alloc(), &survey, &[])
 }
 
 #[test]
 fn cells_come_by_z_then_y_then_x(rt: HostRuntime) -> Result<(), Fail> {
-    let survey = survey(rt.alloc(), 0, &ENDS)?;
-    let blocks = build(rt.alloc(), &survey)?;
-    ranges(
-        &rt,
-        &blocks,
-        &[(0, 2), (2, 1), (3, 1), (4, 1), (5, 1), (6, 1)],
-    );
-    for (place, number) in [3, 5, 6, 0, 1, 4, 2].iter().enumerate() {
-        assert_eq!(rt; blocks.member(place as u32), *number);
-    }
-    Ok(())
+    let survey = survey(rt.alloc(), 7, &ENDS)?;
+    let wanted = [
+        [0, 2, 3],
+        [2, 1, 6],
+        [3, 1, 0],
+        [4, 1, 1],
+        [5, 1, 4],
+        [6, 1, 2],
+    ];
+    by_cells(&rt, rt.alloc(), &survey, &wanted)
 }
 
 /// Block 4 has the record at the origin, which is withheld.
-fn has_the_origin(rt: &impl Abort, records: &BlockRecords<'_>) {
+fn has_the_origin(rt: &impl Abort, blocks: &Blocks) {
+    assert!(rt; blocks.count() > 4);
+    let records = blocks.records(4).expect(rt, "copies");
     assert_eq!(rt; records.numbers, [4].as_slice());
     assert_eq!(rt; records.points, [Point { x: 0, y: 0, z: 0 }].as_slice());
     assert_eq!(rt; records.withheld, [true].as_slice());
@@ -131,17 +141,8 @@ fn has_the_origin(rt: &impl Abort, records: &BlockRecords<'_>) {
 
 #[test]
 fn the_records_of_a_block_lie_side_by_side(rt: HostRuntime) -> Result<(), Fail> {
-    let survey = survey(rt.alloc(), 0, &ENDS)?;
+    let survey = survey(rt.alloc(), 7, &ENDS)?;
     let blocks = build(rt.alloc(), &survey)?;
-    let records = blocks.records(4).expect(&rt, "copies");
-    has_the_origin(&rt, &records);
-    Ok(())
-}
-
-#[test]
-fn blocks_by_number_hold_no_copies(rt: HostRuntime) -> Result<(), Fail> {
-    let survey = survey(rt.alloc(), 1, &[])?;
-    let blocks = build_by_number(rt.alloc(), &survey)?;
-    assert!(rt; blocks.records(0).is_none());
+    has_the_origin(&rt, &blocks);
     Ok(())
 }

@@ -1,9 +1,5 @@
-use Rattle.std.proofs.Common.{◌≡◌, List, map, ◌∙◌, ap, sym}
-use Rattle.std.specs.Prelude.{IfSome}
-use Rattle.view_base.specs.declared.place.Point.{Point}
+use Rattle.std.proofs.Common.{map, ◌∙◌, ap, sym}
 use Rattle.view_meaning.specs.Survey.{point_of, withheld_of}
-use Rattle.grid_blocks.specs.Blocks.{IsBlocks, IsCopied}
-use Rattle.grid_blocks.specs.Cells.{IsByCells}
 use Rattle.grid_blocks.proofs.Orders.{IsBuilt, built_of, built_blocks, built_by_cells, copied}
 use Rattle.grid_blocks.proofs.by_cells.build_some.Goals as goal
 

@@ -1,5 +1,4 @@
-use Rattle.std.proofs.Common.{◌≡◌, ◌+◌, ◌/◌, ◌^◌, ◌≤◌, ◌++◌, ◌∷◌, [], List, ℕ, length, get_or, refl, sym, subst, arith}
-use Rattle.std.specs.List.{All}
+use Rattle.std.proofs.Common.{◌≡◌, ◌+◌, ◌/◌, ◌^◌, ◌≤◌, ◌++◌, ◌∷◌, [], List, length, get_or, refl, sym, subst}
 use Rattle.std.proofs.lemmas.List.Elements.{All-push, All-same}
 use Rattle.grid_blocks.specs.declared.block.Block.{Block}
 use Rattle.grid_blocks.specs.Blocks.{Follow, part}

@@ -1,4 +1,4 @@
-use Rattle.std.proofs.Common.{◌≡◌, ◌∙◌, ap}
+use Rattle.std.proofs.Common.{◌∙◌, ap}
 use Rattle.std.specs.List.{range_with_len}
 use Rattle.grid_blocks.proofs.Orders.{numbered}
 use Rattle.grid_blocks.proofs.by_number.build_by_number.Goals as goal

@@ -1,4 +1,4 @@
-use Rattle.std.proofs.Common.{◌≡◌, ◌%◌, ◌^◌, ◌∙◌, ℕ, length, get_or, refl, arith, length-set}
+use Rattle.std.proofs.Common.{◌%◌, ◌^◌, ◌∙◌, ℕ, get_or, refl, arith, length-set}
 use Rattle.grid_blocks.proofs.Filling.{filled_none, filled_more, filled_map}
 use Rattle.grid_blocks.proofs.copies.write_numbers.Goals as goal
 

@@ -1,4 +1,4 @@
-use Rattle.std.proofs.Common.{◌≡◌, ◌∙◌, ℕ, length, get_or, refl, arith, length-set, false, pos}
+use Rattle.std.proofs.Common.{◌∙◌, get_or, arith, length-set, false, pos}
 use Rattle.view_meaning.specs.Survey.{point_of, withheld_of}
 use Rattle.view_meaning.proofs.Reading.{point-from_part}
 use Rattle.grid_blocks.proofs.Filling.{filled_none, filled_more, filled_map, withheld-from_part}

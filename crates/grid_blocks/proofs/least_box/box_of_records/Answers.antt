@@ -1,4 +1,4 @@
-use Rattle.std.proofs.Common.{◌≡◌, ◌-◌, ◌+◌, List, ℕ, subst, sym, map, arith}
+use Rattle.std.proofs.Common.{◌≡◌, ◌-◌, List, ℕ, subst, sym, map, arith}
 use Rattle.std.specs.List.{range_with_len}
 use Rattle.view_base.specs.declared.place.Point.{Point}
 use Rattle.view_meaning.specs.Survey.{point_of}

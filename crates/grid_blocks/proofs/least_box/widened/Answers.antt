@@ -1,4 +1,3 @@
-use Rattle.std.proofs.Common.{List}
 use Rattle.grid_blocks.proofs.Boxes.{least_box_more}
 use Rattle.grid_blocks.proofs.least_box.widened.Goals as goal
 

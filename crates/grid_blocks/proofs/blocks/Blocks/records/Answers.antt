@@ -1,6 +1,6 @@
 use Rattle.std.proofs.Common.{◌≡◌, ◌≤◌, ◌+◌, ◌∙◌, ℕ, List, length, map, ap, sym, arith}
 use Rattle.view_meaning.specs.Survey.{point_of, withheld_of}
-use Rattle.grid_blocks.specs.Blocks.{members_of, copied_of}
+use Rattle.grid_blocks.specs.Blocks.{members_of}
 use Rattle.grid_blocks.proofs.Kept.{cut_within, copies_read, part_read, part_map}
 use Rattle.grid_blocks.proofs.blocks.Blocks.records.Goals as goal
 

@@ -1,4 +1,4 @@
-use Rattle.std.proofs.Common.{◌≡◌, ◌<◌, ◌%◌, ◌^◌, ◌∙◌, ℕ, map, rules}
+use Rattle.std.proofs.Common.{◌≡◌, ◌<◌, ◌%◌, ◌^◌, ◌∙◌, ℕ, map}
 use Rattle.std.proofs.lemmas.List.Elements.{All-map, All-same}
 use Rattle.view_meaning.specs.Survey.{record_count}
 use Rattle.grid_blocks.proofs.copies.Copies.of.Goals as goal

@@ -1,5 +1,5 @@
 use Rattle.std.proofs.Common.{◌≡◌, ◌<◌, arith, rules, subst, sym, ℕ}
-use Rattle.grid_blocks.specs.Grid.{cell, key}
+use Rattle.grid_blocks.specs.Grid.{cell}
 use Rattle.grid_blocks.proofs.Grids.{cells_small, cell_read, below_64, key_of_cells, key_small}
 use Rattle.grid_blocks.proofs.grid.Grid.key.Goals as goal
 
