@@ -1,0 +1,5 @@
+pub mod LeastBox
+pub mod Blocks
+pub mod Grid
+pub mod Cells
+pub mod Order

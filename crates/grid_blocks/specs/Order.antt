@@ -1,0 +1,21 @@
+-- The words that put a survey's records in the order of cells.
+use Rattle.std.specs.Prelude.{ℕ, ◌+◌, ◌*◌, ◌^◌, List, map}
+use Rattle.std.specs.List.{range_with_len}
+use Rattle.std.specs.List.Sorted.{IsPermutation, IsNonDecreasing}
+use Rattle.view_base.specs.declared.place.Box3.{Box3}
+use Rattle.view_meaning.specs.Survey.{record_count, point_of}
+use Rattle.grid_blocks.specs.LeastBox.{IsLeastBox}
+use Rattle.grid_blocks.specs.Grid.{IsExponent, key}
+
+-- the word of record i: the key of its cell above its number
+abbrev pub word_of : List ℕ → Box3 → ℕ → ℕ → ℕ
+word_of b area e i = key area e (point_of b i) * 2 ^ 26 + i
+
+-- the words of all records, rising
+pub record IsOrder (b words : List ℕ) : Type 0 where
+  pub area : Box3
+  pub exponent : ℕ
+  pub box : IsLeastBox (map (point_of b) (range_with_len 0 (record_count b))) area
+  pub is_exponent : IsExponent area exponent
+  pub all : IsPermutation (map (word_of b area exponent) (range_with_len 0 (record_count b))) words
+  pub rising : IsNonDecreasing words

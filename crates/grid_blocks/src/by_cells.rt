@@ -1,0 +1,156 @@
+ghost use Rattle.std.specs.Prelude.{◌≡◌, ℕ, ◌+◌, ◌/◌, ◌%◌, ◌<◌, ◌≤◌, ◌^◌, ◌≢◌, All, IfOk, IsSome, List, OnOk, [], length, map, slice_index};
+ghost use Rattle.std.specs.List.{range_with_len};
+ghost use Rattle.grid_blocks.specs.Blocks.{IsBlocks, IsCut, part};
+ghost use Rattle.grid_blocks.specs.Cells.{IsByCells, IsRun};
+ghost use Rattle.grid_blocks.specs.LeastBox.{IsLeastBox};
+ghost use Rattle.grid_blocks.specs.Order.{IsOrder, word_of};
+ghost use Rattle.view_meaning.specs.Survey.{point_of, record_count};
+
+use crate::block::Block;
+use crate::blocks::Blocks;
+use crate::copies::{Copies, NUMBER_BITS};
+use crate::grid::Grid;
+use crate::least_box::{box_of_points, box_of_records};
+use las_points::xyz;
+use las_survey::Survey;
+use std::alloc::Global;
+use view_base::{Listing, OutOfMemory, Point};
+
+/// The most members of a block.
+pub(crate) const MOST: usize = 1024;
+
+/// The blocks of a survey by the cells of a grid: the grid has less than 64 cells along each axis of
+/// the survey's box, the records stand in the order of their cell's key and then of their number,
+/// and those of one cell are cut into blocks of 1024, the last one with what is left. Holds the
+/// records' points and withheld bits beside their numbers, in the order of places. Two passes over
+/// the records, a sort, and one more pass in the order of places.
+pub fn build(alloc: Global, survey: &Survey) -> Result<Blocks, OutOfMemory>
+    ensures blocks { IfOk result (IsBlocks survey.now) }
+    ensures cells { 1 ≤ record_count survey.now → IfOk result (IsByCells survey.now) }
+    ensures held { IfOk result (λ blocks. IsSome blocks.copies) }
+{
+    if survey.records() == 0 {
+        return Ok(Blocks::none(alloc));
+    }
+    build_some(alloc, survey)
+}
+
+/// The blocks by cells of a survey with records.
+fn build_some(alloc: Global, survey: &Survey) -> Result<Blocks, OutOfMemory>
+    requires { 1 ≤ record_count survey.now }
+    ensures blocks { IfOk result (IsBlocks survey.now) }
+    ensures cells { IfOk result (IsByCells survey.now) }
+    ensures held { IfOk result (λ blocks. IsSome blocks.copies) }
+{
+    let words = order(alloc, survey)?;
+    let copies = Copies::of(alloc, survey, &words)?;
+    let list = blocks_of(alloc, &words, &copies.points)?;
+    Ok(Blocks::of_copies(list, copies))
+}
+
+/// The words of all records, rising: each has the key of a record's cell above its number.
+fn order(alloc: Global, survey: &Survey) -> Result<Vec<u64>, OutOfMemory>
+    requires { 1 ≤ record_count survey.now }
+    ensures order { IfOk result (λ words. IsOrder survey.now words.items) }
+    ensures size { IfOk result (λ words. length words.items ≡ record_count survey.now) }
+    ensures numbers { IfOk result (λ words. All (λ word. word % 2 ^ 26 < record_count survey.now) words.items) }
+    ensures few { record_count survey.now ≤ 53687091 }
+{
+    let grid = Grid::of(box_of_records(survey, 0, survey.records()));
+    let mut words = words_of(alloc, survey, &grid)?;
+    words.sort_unstable();
+    Ok(words)
+}
+
+/// The word of each record, in the order of numbers.
+fn words_of(alloc: Global, survey: &Survey, grid: &Grid) -> Result<Vec<u64>, OutOfMemory>
+    requires { IsLeastBox (map (point_of survey.now) (range_with_len 0 (record_count survey.now))) grid.now.area }
+    ensures { IfOk result (λ words. words.items ≡ map (word_of survey.now grid.now.area grid.now.exponent) (range_with_len 0 (record_count survey.now))) }
+{
+    let mut words = vec![in alloc; 0u64; survey.records() as usize]?;
+    write_words(&mut words, survey, grid);
+    Ok(words)
+}
+
+/// Writes the word of each record.
+fn write_words(words: &mut [u64], survey: &Survey, grid: &Grid)
+    requires size { length words.old ≡ record_count survey.now }
+    requires around { IsLeastBox (map (point_of survey.now) (range_with_len 0 (record_count survey.now))) grid.now.area }
+    ensures { words.new ≡ map (word_of survey.now grid.now.area grid.now.exponent) (range_with_len 0 (record_count survey.now)) }
+{
+    for i in 0..survey.records() {
+        let key = grid.key(xyz(survey.point_bytes(i)));
+        words[i as usize] = (key << NUMBER_BITS) + u64::from(i);
+    }
+}
+
+/// The blocks of records with these words at these points. There are at most 2^18 keys, so that
+/// the room for the blocks is made once.
+fn blocks_of(alloc: Global, words: &[u64], points: &[Point]) -> Result<Listing<Block>, OutOfMemory>
+    requires size { length points.now ≡ length words.now }
+    requires few { length words.now < 2 ^ 32 }
+    ensures cut { IfOk result (λ list. IsCut list.items (length words.now)) }
+    ensures areas { IfOk result (λ list. All (λ block. IsLeastBox (part block points.now) block.area) list.items) }
+    ensures runs { IfOk result (λ list. All (IsRun (λ place. slice_index words.now place / 2 ^ 26) (length words.now)) list.items) }
+{
+    let mut list = Listing::new(alloc);
+    list.reserve(words.len().min((1 << 18) + words.len() / MOST))?;
+    cut(words, points, &mut list)?;
+    Ok(list)
+}
+
+/// Appends the blocks of records with these words at these points.
+fn cut(words: &[u64], points: &[Point], list: &mut Listing<Block>) -> Result<(), OutOfMemory>
+    requires empty { list.old.items ≡ [] }
+    requires size { length points.now ≡ length words.now }
+    requires few { length words.now < 2 ^ 32 }
+    ensures cut { OnOk result (IsCut list.new.items (length words.now)) }
+    ensures areas { OnOk result (All (λ block. IsLeastBox (part block points.now) block.area) list.new.items) }
+    ensures runs { OnOk result (All (IsRun (λ place. slice_index words.now place / 2 ^ 26) (length words.now)) list.new.items) }
+{
+    let mut first = 0;
+    while first < words.len() {
+        let block = block_from(words, points, first);
+        list.push(block)?;
+        first += block.count as usize;
+    }
+    Ok(())
+}
+
+/// The block that begins at a place.
+fn block_from(words: &[u64], points: &[Point], first: usize) -> Block
+    requires within { first < length words.now }
+    requires size { length points.now ≡ length words.now }
+    requires few { length words.now < 2 ^ 32 }
+    ensures first { result.first ≡ first }
+    ensures some { 1 ≤ result.count }
+    ensures few { result.count ≤ 1024 }
+    ensures within { first + result.count ≤ length words.now }
+    ensures area { IsLeastBox (part result points.now) result.area }
+    ensures run { IsRun (λ place. slice_index words.now place / 2 ^ 26) (length words.now) result }
+{
+    let count = run_length(&words[first..]);
+    Block {
+        first: first as u32,
+        count: count as u32,
+        area: box_of_points(&points[first..first + count]),
+    }
+}
+
+/// How many words from the front have the first one's key, 1024 at most.
+fn run_length(words: &[u64]) -> usize
+    requires { 1 ≤ length words.now }
+    ensures some { 1 ≤ result }
+    ensures few { result ≤ 1024 }
+    ensures within { result ≤ length words.now }
+    ensures alone { (k : ℕ) → k < result → slice_index words.now k / 2 ^ 26 ≡ slice_index words.now 0 / 2 ^ 26 }
+    ensures full { result < 1024 → result < length words.now → slice_index words.now result / 2 ^ 26 ≢ slice_index words.now 0 / 2 ^ 26 }
+{
+    let key = words[0] >> NUMBER_BITS;
+    let most = words.len().min(MOST);
+    let mut count = 1;
+    while count < most && words[count] >> NUMBER_BITS == key {
+        count += 1;
+    }
+    count
+}
