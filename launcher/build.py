@@ -4,10 +4,11 @@
     python3 launcher/build.py ROOT LOG
 
 ROOT is the repository's folder, and LOG gets what rt says. First `rt all check --jobs N` in the program's folder
-makes the libraries below it, several at a time, each as soon as those that it stands on are done; then `rt run`
-builds the program over what that kept, and ends with its status. Where the first fails, as for want of memory,
-the second makes what is missing, one crate after the other. rt keeps what was proved, so a build that is
-interrupted goes on where it stopped.
+makes the libraries below it, several at a time, each as soon as those that it stands on are done. Where those that
+are left stand one on another, no two can be made at a time: `rt lib` makes one after the other, each by several
+processors, and at last `rt run` the program. It goes on so too where the first failed, as for want of memory. rt
+keeps what was proved, so a build that is interrupted goes on where it stopped. The status is that of the last
+command.
 """
 
 import contextlib
@@ -22,7 +23,7 @@ PROGRAM = "view_main"
 # What a check takes at most but for a few crates, in bytes.
 CHECK = 2 << 30
 # Between two looks, and between two lines where standard error is no terminal, in seconds.
-LOOK, LINE = 0.5, 60
+LOOK, LINE = 0.25, 60
 
 
 def number_in(file, pattern):
@@ -48,21 +49,26 @@ def checks_at_once():
     return max(1, min(*processors, min(free) // CHECK))
 
 
-def crates_below(root):
-    """The program and the crates that it stands on, by crates.txt: those that are not listed are the kit's."""
+def crates_of(root):
+    """The program and the crates that it stands on, each with all below it, by crates.txt: what it doesn't list is the kit's."""
     listed = {}
     with open(f"{root}/crates.txt", encoding="utf-8") as lines:
         for line in lines:
             head, _, below = line.partition("#")[0].partition(":")
             if head.strip():
                 listed[head.split()[0]] = below.split()
-    found, ahead = set(), [PROGRAM]
-    while ahead:
-        name = ahead.pop()
-        if name in listed and name not in found:
-            found.add(name)
-            ahead += listed[name]
-    return found
+    below = {}
+
+    def go_through(name):
+        if name not in below:
+            below[name] = set()
+            for lower in listed.get(name, []):
+                if lower in listed:
+                    go_through(lower)
+                    below[name] |= {lower} | below[lower]
+
+    go_through(PROGRAM)
+    return below
 
 
 def at_work(crates, root):
@@ -85,49 +91,77 @@ class Build:
 
     def __init__(self, root, log):
         self.root, self.log, self.read = root, log, 0
-        self.crates, self.done, self.working = crates_below(root), set(), set()
+        self.below = crates_of(root)
+        self.done, self.working, self.told = set(), set(), None
         self.begun = self.said = time.monotonic()
-        self.text = ""
+        self.parent = os.getppid()
 
     def look(self):
-        """Looks which crates are done and at work."""
+        """Looks which crates are done and at work: rt all names each that has ended in a line of its own."""
         with open(self.log, "rb") as file:
             file.seek(self.read)
             piece = file.read()
         # A line that isn't whole yet is read the next time.
         piece = piece[: piece.rfind(b"\n") + 1]
         self.read += len(piece)
-        self.done |= self.crates & {it.decode("ascii", "replace") for it in re.findall(rb"(?m)^== (\w+)$", piece)}
-        self.working = at_work(self.crates, self.root) - self.done
+        self.done |= {it.decode() for it in re.findall(rb"(?m)^== ([a-z0-9_]+)$", piece)} & self.below.keys() - {PROGRAM}
+        self.working = at_work(self.below, self.root) - self.done
+
+    def left(self):
+        """The crates that are left, each after those that it stands on."""
+        return sorted(self.below.keys() - self.done, key=lambda it: len(self.below[it]))
+
+    def is_row(self):
+        """Whether those that are left stand one on another."""
+        left = self.left()
+        return all(low in self.below[high] for low, high in zip(left, left[1:]))
 
     def tell(self):
         """Says how far the build is: on a terminal in one line that changes, else in a line for each crate and minute."""
-        working = ", ".join(sorted(self.working)) or "none yet"
-        counts = f"{len(self.done)} of {len(self.crates)} crates done"
-        minutes = f"{(time.monotonic() - self.begun) / 60:.1f} minutes"
         now = time.monotonic()
+        # The program itself can only be at work before the others where all sources are looked through.
+        is_first = PROGRAM in self.working and len(self.done) + 1 < len(self.below)
+        working = "reading the sources" if is_first else f"at work: {', '.join(sorted(self.working)) or 'none'}"
+        counts = f"{len(self.done)} of {len(self.below)} crates done"
+        line = f"hidrevca: {counts}, {(now - self.begun) / 60:.1f} minutes; {working}"
         if sys.stderr.isatty():
-            line = f"hidrevca: {counts}, {minutes}; at work: {working}"
             say("\r" + line[: os.get_terminal_size(2).columns - 1] + "\033[K")
-        elif self.working and (counts != self.text or now - self.said >= LINE):
-            self.text, self.said = counts, now
-            say(f"hidrevca: {counts}, {minutes}; at work: {working}\n")
+        elif self.working and (counts != self.told or now - self.said >= LINE):
+            self.told, self.said = counts, now
+            say(line + "\n")
 
-    def run(self, *words):
-        """Runs a command of the kit in the program's folder, and gives its status."""
+    def run(self, crate, *words, until=lambda: False):
+        """Runs a command of the kit in a crate's folder, until it ends or this is so, and gives its status."""
         with open(self.log, "ab") as log:
             how = {"stdin": subprocess.DEVNULL, "stdout": log, "stderr": subprocess.STDOUT}
-            child = subprocess.Popen(words, cwd=f"{self.root}/crates/{PROGRAM}", **how)
-        parent = os.getppid()
+            child = subprocess.Popen(["rt", *words], cwd=f"{self.root}/crates/{crate}", **how)
         while True:
             with contextlib.suppress(subprocess.TimeoutExpired):
                 return child.wait(LOOK)
             # Where the launcher was killed nobody waits for the program.
-            if os.getppid() != parent:
+            if os.getppid() != self.parent:
                 child.terminate()
-                return child.wait()
+                sys.exit(1)
             self.look()
+            if until():
+                child.terminate()
+                child.wait()
+                return 0
             self.tell()
+
+    def go(self):
+        """Builds the program, and gives the status of the last command."""
+        if not self.is_row():
+            status = self.run(PROGRAM, "all", "check", "--jobs", str(checks_at_once()), until=self.is_row)
+            self.look()
+            # Some of those that ended weren't made: each is asked for once more, which takes a second where it was.
+            self.done = set() if status else self.done
+        for crate in self.left()[:-1]:
+            status = self.run(crate, "lib")
+            if status:
+                return status
+            self.done.add(crate)
+        return self.run(PROGRAM, "run")
 
 
 def say(text):
@@ -145,10 +179,7 @@ def main():
         sys.stderr = open(os.devnull, "w", encoding="utf-8")
     # As a shell that waits: an interrupt ends this and the kit's command alike.
     signal.signal(signal.SIGINT, signal.SIG_DFL)
-    build = Build(*sys.argv[1:])
-    build.run("rt", "all", "check", "--jobs", str(checks_at_once()))
-    build.look()
-    status = build.run("rt", "run")
+    status = Build(*sys.argv[1:]).go()
     if sys.stderr.isatty():
         say("\r\033[K")
     return status if status >= 0 else 128 - status
