@@ -4,6 +4,7 @@
     python3 examples/test_pictures.py
 """
 
+import io
 import os
 import struct
 import subprocess
@@ -14,9 +15,9 @@ import zlib
 from fractions import Fraction
 
 import assemble
+import header
 import pixels
 import replies
-import survey_head
 import world_file
 from script_ends import Wrong
 
@@ -58,7 +59,7 @@ def survey(scales, offsets):
 
 
 def head(scales, offsets=(0.0, 0.0, 0.0)):
-    return survey_head.head(survey(scales, offsets), "survey")
+    return header.header_of(io.BytesIO(survey(scales, offsets)))
 
 
 def view(right, down, forward, k=500):
@@ -188,16 +189,15 @@ class WorldFiles(unittest.TestCase):
             with self.assertRaisesRegex(Wrong, told):
                 world_file.six(world_file.view_numbers(words.split()), self.HEAD)
 
-    def test_scales_that_are_unequal_or_no_numbers_are_refused(self):
+    def test_scales_that_are_unequal_or_below_0_are_refused(self):
         numbers = world_file.view_numbers(ABOVE.split())
-        for known, told in (
-            (head((0.01, 0.001, 0.01)), "unequal: 0.01 and 0.001"),
-            (head((0.0, 0.0, 0.01)), "not above 0"),
-            (head((float("nan"), float("nan"), 0.01)), "not above 0"),
-            (head((0.01, 0.01, 0.01), (float("inf"), 0.0, 0.0)), "no number"),
-        ):
+        for scales, told in (((0.01, 0.001, 0.01), "unequal: 0.01 and 0.001"), ((-0.01, -0.01, 0.01), "aren't above 0")):
             with self.assertRaisesRegex(Wrong, told):
-                world_file.six(numbers, known)
+                world_file.six(numbers, head(scales))
+        # What is no number is refused where the header is read.
+        for scales in ((0.0, 0.0, 0.01), (float("nan"), 0.01, 0.01)):
+            with self.assertRaisesRegex(Wrong, "the scale of X is"):
+                head(scales)
 
 
 SCRIPT = b"\nedit 0 0 0 9 9 9 all 32\n \t\r\nview x\nsave"
