@@ -14,6 +14,7 @@ import signal
 import subprocess
 import sys
 import tempfile
+import threading
 import unittest
 
 ROOT = os.path.dirname(os.path.dirname(os.path.realpath(__file__)))
@@ -60,6 +61,11 @@ class Launcher(unittest.TestCase):
         child = subprocess.Popen(
             [command or self.launcher, *words], cwd=self.root, env=environment, preexec_fn=prepare, **streams
         )
+        # A run that hangs is a wrong one.
+        limit = threading.Timer(60, child.kill)
+        limit.daemon = True
+        limit.start()
+        self.addCleanup(limit.cancel)
         for pipe in (child.stdin, child.stdout, child.stderr):
             self.addCleanup(lambda pipe=pipe: pipe and not pipe.closed and pipe.close())
         return child
@@ -224,12 +230,14 @@ class Words(Launcher):
 
     def test_a_file_that_can_not_be_opened_or_read(self):
         os.symlink("survey", os.path.join(self.root, "link"))
+        os.link(os.path.join(self.root, "survey"), os.path.join(self.root, "other name"))
         for words, at, status, said in (
             (["info", "nope", "o"], 1, 5, "'nope': no such file"),
             (["info", "crates", "o"], 1, 6, "'crates': a folder"),
             (["draw", "survey", "none/o", *CAMERA], 2, 5, "'none/o': no such folder"),
             (["info", "survey", "./survey"], 2, 5, "'./survey': the file of word 1"),
             (["info", "survey", "link"], 2, 5, "'link': the file of word 1"),
+            (["info", "survey", "other name"], 2, 5, "'other name': the file of word 1"),
             (["serve", "survey", "1", "j", "none", "o"], 4, 5, "'none': no such file"),
             (["serve", "survey", "1", "./o", "crates.txt", "o"], 3, 5, "'./o': the file of word 5"),
         ):

@@ -129,8 +129,9 @@ foresee_write() {
   for other; do
     earlier=${words[other]}
     if [ "$earlier" = - ]; then continue; fi
-    if [ -f "$name" ] && [ "$name" -ef "$earlier" ] ||
-      [ ! -e "$name" ] && [ "$(readlink -f -- "$name")" = "$(readlink -f -- "$earlier")" ]; then
+    if [ -e "$name" ]; then
+      if [ -f "$name" ] && [ "$name" -ef "$earlier" ]; then note 5 "$at" "the file of word $other"; fi
+    elif [ "$(readlink -f -- "$name")" = "$(readlink -f -- "$earlier")" ]; then
       note 5 "$at" "the file of word $other"
     fi
   done
