@@ -280,7 +280,6 @@ explain() {
 
 # Hands a signal on to the program, or takes it where there is none yet.
 pass() {
-  passed=1
   if [ -n "$child" ]; then
     kill -s "$1" "$child" 2>/dev/null
   else
@@ -304,8 +303,8 @@ end_by() {
 # Runs the program as a child that has the streams and the signals as they are here, and ends as it ended.
 # A stop of this shell alone isn't handed on.
 run_and_explain() {
-  local signals=(HUP INT QUIT USR1 USR2 ALRM TERM) signal errors input status before=127 parent=()
-  child='' passed=''
+  local signals=(HUP INT QUIT USR1 USR2 ALRM TERM) signal errors input status='' tick parent=()
+  child=''
   # Where this launcher is killed, the program goes too.
   if command -v setpriv >/dev/null; then parent=(setpriv --pdeathsig KILL --); fi
   # shellcheck disable=SC2064
@@ -321,9 +320,17 @@ run_and_explain() {
   # An end that the program closes has no other holder here.
   exec {errors}>&2 2>/dev/null </dev/null >/dev/null
   if [ "$input" != - ]; then exec {input}<&-; fi
-  while wait "$child"; status=$?; [ -n "$passed" ]; do passed='' before=$status; done
-  # A signal that came just after the wait asks for the status a second time.
-  if [ "$status" -eq 127 ]; then status=$before; fi
+  # bash doesn't see a signal that comes just before it waits, so it looks up each second.
+  while [ -z "$status" ]; do
+    sleep 1 {errors}>&- &
+    tick=$!
+    wait -n "$child" "$tick"
+    kill "$tick"
+    if ! kill -0 "$child"; then
+      wait "$child"
+      status=$?
+    fi
+  done
   if [ "$status" -gt 128 ]; then end_by "$status"; fi
   for signal in "${signals[@]}"; do trap - "$signal"; done
   exec 2>&"$errors"
