@@ -20,8 +20,8 @@ import sys
 from typing import NamedTuple, Optional
 
 from script_ends import Words, Wrong, run, standard_input
+from survey_head import HEADER_SIZES, block_fault
 
-BLOCK_SIZES = {2: 227, 3: 235, 4: 375}
 WKT, GEOTIFF_KEYS = 2112, 34735
 # Keys of GeoTIFF: the code of a projected system, and of a geographic one.
 PROJECTED, GEOGRAPHIC = 3072, 2048
@@ -112,19 +112,13 @@ def coordinate_system(stream, block):
 def block_of(stream):
     """The public header block and what a longer header has behind it."""
     block = stream.read(227)
-    if not block:
-        raise Wrong("the file is empty")
-    if len(block) >= 4 and block[:4] != b"LASF":
-        raise Wrong("no LASF signature: this is no LAS file")
-    if len(block) < 227:
-        raise Wrong(f"only {len(block)} bytes: the file is cut within its header")
-    major, minor = block[24:26]
-    if major != 1 or minor not in BLOCK_SIZES:
-        raise Wrong(f"version {major}.{minor}, and not LAS 1.2, 1.3 or 1.4")
+    if len(block) == 227:
+        block += stream.read(HEADER_SIZES.get(block[25], 227) - 227)
+    fault = block_fault(block)
+    if fault:
+        raise Wrong(f"no survey: {fault}")
     (size,) = struct.unpack_from("<H", block, 94)
-    if size < BLOCK_SIZES[minor]:
-        raise Wrong(f"header size {size}, and LAS 1.{minor} has {BLOCK_SIZES[minor]}")
-    return block + piece(stream, size - 227, "header")
+    return block + piece(stream, size - len(block), "header")
 
 
 def header_of(stream):

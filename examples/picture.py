@@ -24,8 +24,8 @@ import sys
 
 import pixels
 import replies
-import survey_head
 import world_file
+from header import read_header
 from script_ends import Words, Wrong, open_bytes, read_bytes, run, write_bytes
 
 
@@ -75,7 +75,7 @@ def world_of(given, picture):
     numbers = world_file.view_numbers(view)
     if numbers[:2] != [picture.width, picture.height]:
         raise Wrong(f"the view has {numbers[0]} by {numbers[1]} pixels, the picture {picture.width} by {picture.height}")
-    return world_file.world_text(numbers, survey_head.head(read_bytes(survey), survey))
+    return world_file.world_text(numbers, read_header(survey))
 
 
 def legend(picture, asprs):

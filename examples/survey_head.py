@@ -1,6 +1,6 @@
-"""The fields of a LAS header that the scripts look at, or what shows that a file is no survey.
+"""Where the records of a LAS file lie, or what shows that a file is no survey.
 
-The texts of the faults are those of the program (docs/FORMATS.md). Variable length records aren't looked at.
+The texts of the faults are those of the program (docs/FORMATS.md). What a header says of metres reads header.py.
 """
 
 import collections
@@ -11,24 +11,31 @@ from script_ends import Wrong
 HEADER_SIZES = {2: 227, 3: 235, 4: 375}
 LEAST_LENGTHS = (20, 28, 26, 34, 57, 63, 30, 36, 38, 59, 67)
 
-# Counts are of bytes and records; scales and offsets are those of X, Y and Z.
-Head = collections.namedtuple("Head", "start format length records scales offsets")
+# Counts are of bytes and records.
+Head = collections.namedtuple("Head", "start format length records")
+
+
+def block_fault(data):
+    """What is wrong with signature, version and size of the public header block that data begins with, if anything."""
+    if len(data) < 227:
+        return f"only {len(data)} bytes"
+    if data[:4] != b"LASF":
+        return "no LASF signature"
+    major, minor = data[24], data[25]
+    if major != 1 or minor not in HEADER_SIZES:
+        return f"version {major}.{minor}"
+    if len(data) < HEADER_SIZES[minor]:
+        return f"only {len(data)} bytes"
+    (size,) = struct.unpack_from("<H", data, 94)
+    return f"header size {size}" if size < HEADER_SIZES[minor] else None
 
 
 def head_fault(survey):
-    """What is wrong with signature, version, format and sizes, if anything."""
-    if len(survey) < 227:
-        return f"only {len(survey)} bytes"
-    if survey[:4] != b"LASF":
-        return "no LASF signature"
-    major, minor, form = survey[24], survey[25], survey[104]
-    if major != 1 or minor not in HEADER_SIZES:
-        return f"version {major}.{minor}"
-    if len(survey) < HEADER_SIZES[minor]:
-        return f"only {len(survey)} bytes"
-    (size, start), (length,) = struct.unpack_from("<HI", survey, 94), struct.unpack_from("<H", survey, 105)
-    if size < HEADER_SIZES[minor]:
-        return f"header size {size}"
+    """What is wrong with the block, with the format or with where the records begin, if anything."""
+    fault = block_fault(survey)
+    if fault:
+        return fault
+    form, (size, start), (length,) = survey[104], struct.unpack_from("<HI", survey, 94), struct.unpack_from("<H", survey, 105)
     if form >= 128:
         return f"compressed points, format byte {form}"
     if form > 10:
@@ -39,7 +46,7 @@ def head_fault(survey):
 
 
 def head(survey, name):
-    """The header of a whole survey, named for what is wrong with it."""
+    """Where the records of a whole survey lie, named for what is wrong with it."""
     fault = head_fault(survey)
     if fault:
         raise Wrong(f"{name} is no survey: {fault}")
@@ -50,8 +57,7 @@ def head(survey, name):
     need = start + records * length
     if need > len(survey):
         raise Wrong(f"{name} is no survey: points need {need} bytes, file has {len(survey)}")
-    numbers = struct.unpack_from("<6d", survey, 131)
-    return Head(start, survey[104], length, records, numbers[:3], numbers[3:])
+    return Head(start, survey[104], length, records)
 
 
 def class_bits(form):

@@ -12,8 +12,12 @@ roots are used, so that each machine writes the same bytes.
 """
 
 import math
+import os
+import signal
 import struct
 import sys
+import time
+from concurrent.futures import BrokenExecutor, ProcessPoolExecutor
 
 from script_ends import Words, run, write_bytes
 
@@ -24,6 +28,8 @@ CONTOUR, INDEX_CONTOUR = 5, 25  # metres of height between contour lines, and be
 GRID = 8  # metres between the measured ground points where no contour line runs
 STREAM = 5  # metres from the middle of the stream to each bank
 TREES = 220
+BAND = 20  # rows that are made at a time
+RECORD = struct.Struct("<3iHBBbBH")
 
 # Middle (x, y), half widths (x, y) and height of each hill, in metres.
 HILLS = [
@@ -67,24 +73,40 @@ def wave(t):
     return 4 * t * (1 - t) if t < 1 else -4 * (t - 1) * (2 - t)
 
 
-def bump(x, y):
-    """A small unevenness between -1 and 1."""
-    return 0.5 * wave(x / 97 + wave(y / 131) / 3) + 0.5 * wave(y / 83 + wave(x / 113) / 3)
+def square(t):
+    return t * t
 
 
 def stream_middle(y):
     return 500 + 46 * wave(y / 300) + 10 * wave(y / 110)
 
 
+def column(x):
+    """What the height of the ground takes from x alone: x, a term for each hill, and two of the unevenness."""
+    return x, *(1 + square((x - at_x) / half_x) for at_x, _, half_x, _, _ in HILLS), x / 97, wave(x / 113) / 3
+
+
+def heights(columns, y):
+    """Heights of the ground in metres at these columns of a row. All bytes rest on the order of sums and products."""
+    v1, v2, v3, v4, v5, v6 = (square((y - at_y) / half_y) for _, at_y, _, half_y, _ in HILLS)
+    t1, t2, t3, t4, t5, t6 = (top for *_, top in HILLS)
+    level, middle, tilt, row = 20 + y / 60, stream_middle(y), wave(y / 131) / 3, y / 83
+    found = []
+    for x, u1, u2, u3, u4, u5, u6, s, t in columns:
+        far = (x - middle) / 70
+        n1, n2, n3, n4, n5, n6 = 1 / (u1 + v1), 1 / (u2 + v2), 1 / (u3 + v3), 1 / (u4 + v4), 1 / (u5 + v5), 1 / (u6 + v6)
+        hills = t1 * n1 * n1 + t2 * n2 * n2 + t3 * n3 * n3 + t4 * n4 * n4 + t5 * n5 * n5 + t6 * n6 * n6
+        # A small unevenness between -1 and 1, by two waves.
+        s, t = (s + tilt) % 2, (row + t) % 2
+        s = 4 * s * (1 - s) if s < 1 else -4 * (s - 1) * (2 - s)
+        t = 4 * t * (1 - t) if t < 1 else -4 * (t - 1) * (2 - t)
+        found.append(level + hills - 12 / (1 + far * far) + 2 * (0.5 * s + 0.5 * t))
+    return found
+
+
 def height(x, y):
     """Height of the ground in metres."""
-    far = (x - stream_middle(y)) / 70
-    hills = 0
-    for at_x, at_y, half_x, half_y, top in HILLS:
-        across, along = (x - at_x) / half_x, (y - at_y) / half_y
-        near = 1 / (1 + across * across + along * along)
-        hills += top * near * near
-    return 20 + y / 60 + hills - 12 / (1 + far * far) + 2 * bump(x, y)
+    return heights([column(x)], y)[0]
 
 
 def inside_building(x, y, margin):
@@ -94,24 +116,53 @@ def inside_building(x, y, margin):
     )
 
 
-def ground():
+def ground(rows):
+    """The records of the ground's rows from one to below another."""
     # Two rows and columns more than the survey has, for the neighbours of its last metres.
-    heights = [[height(x, y) for x in range(EAST + 2)] for y in range(NORTH + 2)]
-
-    def on_line(x, y, step, thick):
-        """A contour line at a multiple of step runs between here and thick metres east or north."""
-        here = heights[y][x] // step
-        return here != heights[y][x + thick] // step or here != heights[y + thick][x] // step
-
-    for y in range(NORTH):
+    columns = [column(x) for x in range(EAST + 2)]
+    places = [heights(columns, y) for y in range(rows[0], rows[1] + 2)]
+    thin, thick = ([[it // step for it in row] for row in places] for step in (CONTOUR, INDEX_CONTOUR))
+    found = []
+    for k, y in enumerate(range(*rows)):
         middle = stream_middle(y)
-        for x in range(EAST):
+        # Within two metres of a building nothing is measured.
+        houses = [range(at - 2, at + long + 2) for at, south, long, wide, _ in BUILDINGS if south - 2 <= y < south + wide + 2]
+        # A contour line runs between here and a metre east or north, a thick one within two metres.
+        near = zip(places[k], thin[k], thin[k][1:], thin[k + 1], thick[k], thick[k][2:], thick[k + 2])
+        for x, (high, here, east, north, wide, wide_east, wide_north) in enumerate(near):
             off = abs(x - middle) - STREAM
-            on_grid = x % GRID == 0 and y % GRID == 0
-            on_contour = on_line(x, y, CONTOUR, 1) or on_line(x, y, INDEX_CONTOUR, 2)
-            measured = on_grid or on_contour or off < 1.5
-            if off >= 0 and measured and not inside_building(x, y, 2):
-                yield x, y, heights[y][x], GROUND
+            on_contour = here != east or here != north or wide != wide_east or wide != wide_north
+            measured = on_contour or off < 1.5 or x % GRID == y % GRID == 0
+            if measured and off >= 0 and not any(x in it for it in houses):
+                found.append(record(x, y, high, GROUND))
+    return found
+
+
+def in_bands(bands):
+    """The records of the ground by bands of rows, made side by side where there are processors for it."""
+    count = len(os.sched_getaffinity(0)) if hasattr(os, "sched_getaffinity") else os.cpu_count() or 1
+    if count > 1:
+        try:
+            # An interrupt ends this process, and with it the others.
+            with ProcessPoolExecutor(count, initializer=signal.signal, initargs=(signal.SIGINT, signal.SIG_IGN)) as pool:
+                return list(watched(pool.map(ground, bands), len(bands)))
+        except (ImportError, NotImplementedError, OSError, BrokenExecutor):
+            pass
+    return list(watched(map(ground, bands), len(bands)))
+
+
+def watched(parts, count):
+    """The parts as they come; on a terminal each second says how many came."""
+    last = time.monotonic()
+    is_told = False
+    for number, part in enumerate(parts, 1):
+        yield part
+        if time.monotonic() - last >= 1 and sys.stderr is not None and sys.stderr.isatty():
+            last, is_told = time.monotonic(), True
+            print(f"\rterrain.py: {100 * number // count} of 100", end="", file=sys.stderr, flush=True)
+    if is_told:
+        # The line goes again.
+        print("\r\033[K", end="", file=sys.stderr, flush=True)
 
 
 def buildings():
@@ -151,18 +202,16 @@ def trees():
 
 
 def record(x, y, z, kind):
-    place = (math.floor(at / SCALE + 0.5) for at in (x, y, z))
+    east, north, up = math.floor(x / SCALE + 0.5), math.floor(y / SCALE + 0.5), math.floor(z / SCALE + 0.5)
     # Intensity 0; return 1 of 1; the class byte; scan angle, user data and point source id 0.
-    return struct.pack("<3iHBBbBH", *place, 0, 0b001001, kind, 0, 0, 0)
+    return RECORD.pack(east, north, up, 0, 0b001001, kind, 0, 0, 0)
 
 
 def survey(records):
     """The whole file: the public header block of 375 bytes, then the records of 20 bytes."""
-    count = len(records)
-    corners = [struct.unpack_from("<3i", it) for it in records]
+    count, body = len(records), b"".join(records)
     bounds = []
-    for axis in range(3):
-        values = [it[axis] for it in corners]
+    for values in list(zip(*RECORD.iter_unpack(body)))[:3]:
         bounds += [max(values) * SCALE, min(values) * SCALE]
     header = bytearray(375)
     header[0:4] = b"LASF"
@@ -172,14 +221,16 @@ def survey(records):
     struct.pack_into("<HHHIIBHI5I", header, 90, 1, 2026, 375, 375, 0, 0, 20, count, count, 0, 0, 0, 0)
     struct.pack_into("<3d3d6d", header, 131, *[SCALE] * 3, 0, 0, 0, *bounds)
     struct.pack_into("<QQIQ15Q", header, 227, 0, 0, 0, count, count, *[0] * 14)
-    return bytes(header) + b"".join(records)
+    return bytes(header) + body
 
 
 def main():
     parser = Words(__doc__)
     parser.add_argument("out", metavar="OUT.las")
     out = parser.parse_args().out
-    records = [record(*it) for part in (ground(), buildings(), trees()) for it in part]
+    bands = [(y, min(y + BAND, NORTH)) for y in range(0, NORTH, BAND)]
+    records = [it for band in in_bands(bands) for it in band]
+    records += [record(*it) for part in (buildings(), trees()) for it in part]
     write_bytes(out, survey(records))
     print(f"{out}: {len(records)} records", file=sys.stderr if out == "-" else sys.stdout)
 

@@ -14,6 +14,7 @@ import signal
 import subprocess
 import sys
 import tempfile
+import threading
 import unittest
 
 ROOT = os.path.dirname(os.path.dirname(os.path.realpath(__file__)))
@@ -60,6 +61,11 @@ class Launcher(unittest.TestCase):
         child = subprocess.Popen(
             [command or self.launcher, *words], cwd=self.root, env=environment, preexec_fn=prepare, **streams
         )
+        # A run that hangs is a wrong one.
+        limit = threading.Timer(60, child.kill)
+        limit.daemon = True
+        limit.start()
+        self.addCleanup(limit.cancel)
         for pipe in (child.stdin, child.stdout, child.stderr):
             self.addCleanup(lambda pipe=pipe: pipe and not pipe.closed and pipe.close())
         return child
@@ -224,12 +230,14 @@ class Words(Launcher):
 
     def test_a_file_that_can_not_be_opened_or_read(self):
         os.symlink("survey", os.path.join(self.root, "link"))
+        os.link(os.path.join(self.root, "survey"), os.path.join(self.root, "other name"))
         for words, at, status, said in (
             (["info", "nope", "o"], 1, 5, "'nope': no such file"),
             (["info", "crates", "o"], 1, 6, "'crates': a folder"),
             (["draw", "survey", "none/o", *CAMERA], 2, 5, "'none/o': no such folder"),
             (["info", "survey", "./survey"], 2, 5, "'./survey': the file of word 1"),
             (["info", "survey", "link"], 2, 5, "'link': the file of word 1"),
+            (["info", "survey", "other name"], 2, 5, "'other name': the file of word 1"),
             (["serve", "survey", "1", "j", "none", "o"], 4, 5, "'none': no such file"),
             (["serve", "survey", "1", "./o", "crates.txt", "o"], 3, 5, "'./o': the file of word 5"),
         ):
@@ -247,8 +255,54 @@ class Words(Launcher):
             words = ["serve", "survey", "1", "j", "script", "o"]
             self.assertEqual(self.refused(words, "session input of word 4 is too long", 10), said)
 
+    def test_a_camera_number_out_of_range(self):
+        # Word 5 is the first number; the pixels, of which there may be 9437184, are told as the nineteenth.
+        for at, word, number, said in (
+            (5, "4097", 1, "where W is wanted: the width in pixels, 1 to 4096"),
+            (9, "-2147483649", 5, "where EZ is wanted: the eye, in the units of Z: -2147483648 to 2147483647"),
+            (18, "32768", 14, "where FZ is wanted: forward: -32768 to 32767"),
+            (20, "00000000000000000000", 16, "where T is wanted: the unit of depth, 1 to 1099511627776"),
+            (22, "-1", 18, "where FAR is wanted: the greatest depth in view, NEAR to 4294967294"),
+        ):
+            words = ["draw", "survey", "o", *CAMERA]
+            words[at] = word
+            further = self.refused(words, f"camera number {number} is out of range: {word}", 3)
+            self.assertEqual(further.decode(), f"word {at} is '{word}', {said}\n")
+        words = ["draw", "survey", "o", *CAMERA]
+        words[5:7] = "3073", "3072"
+        further = self.refused(words, "camera number 19 is out of range: 9440256", 3)
+        self.assertEqual(further, b"words 5 and 6 are '3073' and '3072': W times H is at most 9437184\n")
+        # The greatest picture is drawn by the program in the launcher's place.
+        words[5] = "3072"
+        self.assertEqual(self.refused(words, "camera number 1 is out of range: 3072", 3), b"")
+
+    def test_a_survey_that_is_empty_too_long_or_compressed(self):
+        self.write("empty", "")
+        self.write("a.LAZ", "LASF")
+        # A file without content of its own takes no room.
+        for length, name in (((1 << 30), "most"), ((1 << 30) + 1, "more")):
+            with open(os.path.join(self.root, name), "wb") as file:
+                file.truncate(length)
+        laz = b"word 1 is 'a.LAZ': by its name compressed points, which aren't read; pdal translate and las2las make them plain\n"
+        for name, text, status, said in (
+            ("empty", "survey: only 0 bytes", 8, b"word 1 is 'empty': an empty file\n"),
+            ("a.LAZ", "survey: compressed points, format byte 131", 8, laz),
+            ("most", "survey is too long", 7, b""),
+            ("more", "survey is too long", 7, b"word 1 is 'more': more than 1073741824 bytes\n"),
+        ):
+            self.assertEqual(self.refused(["info", name, "o"], text, status), said)
+
+    def test_what_is_not_built(self):
+        for words, said in (
+            (["trial", "1", "2", "3", "o"], "word 0 is 'trial', which isn't built"),
+            (["serve", "survey", "1", "j", "i", "o", "i2", "o2"], "word 6 is 'i2': more than one pair of IN and OUT isn't built"),
+            (["draw", "survey", "o", "1", "persp", *CAMERA[2:]], "word 4 is 'persp', where ortho alone is built"),
+            (["draw", "survey", "o", *CAMERA[:-3], "class", "2,5", "show"], "word 24 is '2,5', where all alone is built"),
+        ):
+            self.assertEqual(self.refused(words, "not built yet", 12).decode(), said + "\n")
+
     def test_another_status_than_the_word_would_give_says_nothing(self):
-        for status in (8, 9):
+        for status in (7, 8, 9):
             self.assertEqual(self.end(WRONG, f"exit {status}"), (status, b"", b""))
 
 

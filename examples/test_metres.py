@@ -111,10 +111,12 @@ class Headers(Files):
         flat = survey(**{**MILLIMETRES, "scale": (0.001, 0.0, 0.001)})
         cut = assemble.full_file(4, 6)[:400]
         for data, text in (
-            (b"", "the file is empty"),
-            (b"P6\n1 1\n255\n000", "no LASF signature: this is no LAS file"),
-            (whole[:200], "only 200 bytes: the file is cut within its header"),
-            (whole[:300], "the file is cut within its header"),
+            (b"", "no survey: only 0 bytes"),
+            (b"P6\n1 1\n255\n000", "no survey: only 14 bytes"),
+            (b"x" + whole[1:], "no survey: no LASF signature"),
+            (whole[:200], "no survey: only 200 bytes"),
+            (whole[:300], "no survey: only 300 bytes"),
+            (whole[:94] + struct.pack("<H", 400) + whole[96:380], "the file is cut within its header"),
             (flat, "the scale of Y is 0.0"),
             (cut, "the file is cut within its VLR 0"),
         ):

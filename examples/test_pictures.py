@@ -4,6 +4,7 @@
     python3 examples/test_pictures.py
 """
 
+import io
 import os
 import struct
 import subprocess
@@ -14,9 +15,9 @@ import zlib
 from fractions import Fraction
 
 import assemble
+import header
 import pixels
 import replies
-import survey_head
 import world_file
 from script_ends import Wrong
 
@@ -58,7 +59,7 @@ def survey(scales, offsets):
 
 
 def head(scales, offsets=(0.0, 0.0, 0.0)):
-    return survey_head.head(survey(scales, offsets), "survey")
+    return header.header_of(io.BytesIO(survey(scales, offsets)))
 
 
 def view(right, down, forward, k=500):
@@ -188,16 +189,15 @@ class WorldFiles(unittest.TestCase):
             with self.assertRaisesRegex(Wrong, told):
                 world_file.six(world_file.view_numbers(words.split()), self.HEAD)
 
-    def test_scales_that_are_unequal_or_no_numbers_are_refused(self):
+    def test_scales_that_are_unequal_or_below_0_are_refused(self):
         numbers = world_file.view_numbers(ABOVE.split())
-        for known, told in (
-            (head((0.01, 0.001, 0.01)), "unequal: 0.01 and 0.001"),
-            (head((0.0, 0.0, 0.01)), "not above 0"),
-            (head((float("nan"), float("nan"), 0.01)), "not above 0"),
-            (head((0.01, 0.01, 0.01), (float("inf"), 0.0, 0.0)), "no number"),
-        ):
+        for scales, told in (((0.01, 0.001, 0.01), "unequal: 0.01 and 0.001"), ((-0.01, -0.01, 0.01), "aren't above 0")):
             with self.assertRaisesRegex(Wrong, told):
-                world_file.six(numbers, known)
+                world_file.six(numbers, head(scales))
+        # What is no number is refused where the header is read.
+        for scales in ((0.0, 0.0, 0.01), (float("nan"), 0.01, 0.01)):
+            with self.assertRaisesRegex(Wrong, "the scale of X is"):
+                head(scales)
 
 
 SCRIPT = b"\nedit 0 0 0 9 9 9 all 32\n \t\r\nview x\nsave"
@@ -257,6 +257,30 @@ class Scripts(unittest.TestCase):
         self.assertEqual(self.run_script(f"picture.py view.ppm a.png --world read.las {ABOVE}"), (0, b"", ""))
         self.assertEqual(self.left("a.pgw").decode(), WorldFiles.TEXT)
         self.assertEqual(decoded(self.left("a.png"))[:2], (4, 2))
+
+    def test_a_drawn_survey_lies_on_the_map_where_its_header_says(self):
+        # A unit is 1 mm and K 100 units, so a pixel is 0.1 m. Record i is at E 500000 + i / 10, N 4500000 - i / 20.
+        # The eye is at E 500000.2, N 4499999.9; the first centre is 2.5 pixels to the west and 1.5 to the north of it.
+        camera = "ortho 6 4 200 -100 1000 1 0 0 0 -1 0 0 0 -1 100 1 0 4294967294 class all show"
+        self.assertEqual(self.run_script(f"reference_draw.py draw read.las drawn.ppm 1 {camera}"), (0, b"", ""))
+        words = f"picture.py drawn.ppm drawn.png --classes asprs --world read.las {camera}"
+        self.assertEqual(self.run_script(words), (0, b"", ""))
+        self.assertEqual(self.left("drawn.pgw").decode(), "0.1\n0\n0\n-0.1\n499999.95\n4500000.05\n")
+        width, _, rows = decoded(self.left("drawn.png"))
+        for colour, column, row, east, north in (
+            # Record 0, class 2: the centre of column 1 is at E 500000.05, and that of row 1 at N 4499999.95.
+            ("B5793C", 1, 1, "500000", "4500000"),
+            # Record 3, class 5: E 500000.35 and N 4499999.85.
+            ("2E9E3A", 4, 2, "500000.3", "4499999.85"),
+            # Record 4, class 1: E 500000.45 and N 4499999.75.
+            ("CCCCCC", 5, 3, "500000.4", "4499999.8"),
+        ):
+            at = row * (1 + 3 * width) + 1 + 3 * column
+            self.assertEqual(rows[at : at + 3].hex().upper(), colour)
+            centre_east, centre_north = Fraction("499999.95") + Fraction(column, 10), Fraction("4500000.05") - Fraction(row, 10)
+            # A pixel has its west and its north edge.
+            self.assertTrue(-1 <= 20 * (Fraction(east) - centre_east) < 1, column)
+            self.assertTrue(-1 < 20 * (Fraction(north) - centre_north) <= 1, row)
 
     def test_nothing_is_written_where_the_world_file_is_refused(self):
         told = "picture.py: the view has 4 by 2 pixels, the picture 2 by 1\n"

@@ -138,8 +138,8 @@ def case(name, words, files, status=0, text="", after=None, out=b"", stdin=b"", 
         got, printed, told = run(folder, words, stdin, stdout)
         line = text.encode() + b"\n" if text else b""
         # The launcher may say afterwards what the word is, which examples/test_launcher.py compares.
-        more = told[len(line) :] if status in (2, 5, 6, 9, 10) else b""
-        if more.startswith(b"word ") and told.startswith(line):
+        more = told[len(line) :] if status else b""
+        if more.startswith((b"word ", b"words ")) and told.startswith(line):
             told = line
         if (got, told) != (status, line):
             wrong(name, "status and standard error", (status, line), (got, told))

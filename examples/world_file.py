@@ -2,8 +2,8 @@
 
 import re
 from fractions import Fraction
-from math import isfinite
 
+from metres import exact
 from script_ends import Wrong
 
 WORD = re.compile(r"-?[0-9]{1,20}")
@@ -39,36 +39,32 @@ def check_above(numbers):
         raise Wrong(f"K is 1 to {MOST_SCALE}, and not {numbers[14]}")
 
 
-def exact(number):
-    """The number that the shortest decimals of a header's double name: 0.001 is a thousandth."""
-    return Fraction(repr(number))
+def check_scales(header):
+    """Refuses scales of X and Y that turn the map round, or are unequal."""
+    x, y = header.scale[:2]
+    if min(x, y) <= 0:
+        raise Wrong(f"the scales of X and Y aren't above 0: {x!r} and {y!r}")
+    if x != y:
+        raise Wrong(f"the scales of X and Y are unequal: {x!r} and {y!r}")
 
 
-def check_scales(head):
-    """Refuses scales and offsets that place nothing, and unequal scales of X and Y."""
-    if not all(map(isfinite, (*head.scales[:2], *head.offsets[:2]))) or min(head.scales[:2]) <= 0:
-        raise Wrong("the header's scales are not above 0, or an offset is no number")
-    if head.scales[0] != head.scales[1]:
-        raise Wrong(f"the scales of X and Y are unequal: {head.scales[0]!r} and {head.scales[1]!r}")
-
-
-def six(numbers, head):
+def six(numbers, header):
     """The six numbers of the world file: east and north of a step right, of a step down, and of the first centre.
 
     A pixel holds the places with 0 <= (r . q) / K - i < 1 and the same for its row, where q is the place less
     the eye, i the column less half the width: its centre is at i + 1/2.
     """
     check_above(numbers)
-    check_scales(head)
+    check_scales(header)
     width, height, ex, ey = numbers[:4]
     rx, ry, dx, dy, k = *numbers[5:7], *numbers[8:10], numbers[14]
-    unit, turn = exact(head.scales[0]) * k, rx * dy - ry * dx
+    unit, turn = exact(header.scale[0]) * k, rx * dy - ry * dx
     # The inverse of the matrix with the rows r and d.
     right = (unit * dy / turn, -unit * dx / turn)
     down = (-unit * ry / turn, unit * rx / turn)
     column, row = Fraction(1, 2) - width // 2, Fraction(1, 2) - height // 2
     first = [
-        exact(head.offsets[at]) + exact(head.scales[at]) * eye + column * right[at] + row * down[at]
+        exact(header.offset[at]) + exact(header.scale[at]) * eye + column * right[at] + row * down[at]
         for at, eye in ((0, ex), (1, ey))
     ]
     return [*right, *down, *first]
@@ -81,5 +77,5 @@ def decimals(number):
     return f"-{text}" if number < 0 and text != "0" else text
 
 
-def world_text(numbers, head):
-    return "".join(decimals(number) + "\n" for number in six(numbers, head))
+def world_text(numbers, header):
+    return "".join(decimals(number) + "\n" for number in six(numbers, header))

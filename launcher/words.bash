@@ -47,6 +47,30 @@ quoted() {
   fi
 }
 
+# Whether a number of the grammar lies between two others; 19 digits and more lie beyond all that are asked for.
+lies_between() {
+  local number
+  [[ $1 =~ ^(-?)0*([0-9]{0,18})$ ]] || return 1
+  number=$((10#0${BASH_REMATCH[2]}))
+  if [ -n "${BASH_REMATCH[1]}" ]; then number=$((-number)); fi
+  ((number >= $2 && number <= $3))
+}
+
+# Whether the 18 numbers of a camera are in their ranges.
+is_camera() {
+  local size='1 4096' eye='-2147483648 2147483647' part='-32768 32767' unit='1 1099511627776' depth='0 4294967294' range word
+  local ranges=("$size" "$size" "$eye" "$eye" "$eye")
+  for ((word = 0; word < 9; word++)); do ranges+=("$part"); done
+  ranges+=("$unit" "$unit" "$depth" "$depth")
+  for word; do
+    range=${ranges[0]}
+    ranges=("${ranges[@]:1}")
+    # shellcheck disable=SC2086
+    lies_between "$word" $range || return 1
+  done
+  ((10#${1#-} * 10#${2#-} <= 9437184)) && lies_between "${18}" "${17}" 4294967294
+}
+
 # Whether the words are those of a line that is built. Where it says no the program mostly ends at once.
 looks_right() {
   local workers='^0{0,18}([1-9]|[1-5][0-9]|6[0-4])$' number='^-?[0-9]{1,20}$' word
@@ -55,6 +79,7 @@ looks_right() {
     info:3) [[ $2 != "$3" || $2 = - ]] ;;
     draw:26)
       for word in "${@:6:18}"; do [[ $word =~ $number ]] || return 1; done
+      is_camera "${@:6:18}" || return 1
       [[ ( $2 != "$3" || $2 = - ) && $4 =~ $workers && $5 = ortho && "${*:24}" = 'class all show' ]]
       ;;
     serve:6)
@@ -104,8 +129,9 @@ foresee_write() {
   for other; do
     earlier=${words[other]}
     if [ "$earlier" = - ]; then continue; fi
-    if [ -f "$name" ] && [ "$name" -ef "$earlier" ] ||
-      [ ! -e "$name" ] && [ "$(readlink -f -- "$name")" = "$(readlink -f -- "$earlier")" ]; then
+    if [ -e "$name" ]; then
+      if [ -f "$name" ] && [ "$name" -ef "$earlier" ]; then note 5 "$at" "the file of word $other"; fi
+    elif [ "$(readlink -f -- "$name")" = "$(readlink -f -- "$earlier")" ]; then
       note 5 "$at" "the file of word $other"
     fi
   done
@@ -127,23 +153,36 @@ foresee_write() {
   fi
 }
 
-# Only a regular file tells its length before it is read.
+# Only a regular file tells its length before it is read. The greatest, its place, and the status of a longer one.
 foresee_length() {
   local name=$1
   if [ "$name" = - ]; then name=/dev/fd/0; fi
-  if [ -f "$name" ] && [ -n "$(find -L "$name" -prune -size +1048576c 2>/dev/null)" ]; then
-    note 10 "$2" 'more than 1048576 bytes'
+  if [ -f "$name" ] && [ -n "$(find -L "$name" -prune -size +"$2"c 2>/dev/null)" ]; then
+    note "$4" "$3" "more than $2 bytes"
+  fi
+}
+
+# What name and length of a survey show.
+foresee_survey() {
+  local name=$1
+  foresee_length "$name" 1073741824 1 7
+  if [ "$name" = - ]; then name=/dev/fd/0; fi
+  if [ -f "$name" ] && [ ! -s "$name" ]; then
+    note 8 1 'an empty file'
+  elif [[ $1 = *.[lL][aA][zZ] ]]; then
+    note 8 1 "by its name compressed points, which aren't read; pdal translate and las2las make them plain"
   fi
 }
 
 # What can be seen of a built line before it runs, in the order in which the program opens its files.
 foresee() {
   foresee_read "$2" 1
+  foresee_survey "$2"
   if [ "$1" = serve ]; then
     foresee_read "$5" 4
     foresee_write "$6" 5 1 4
     foresee_write "$4" 3 1 4 5
-    foresee_length "$5" 4
+    foresee_length "$5" 1048576 4 10
   else
     foresee_write "$3" 2 1
   fi
@@ -192,15 +231,43 @@ explain_word() {
   fi
 }
 
+# Says which word a number of the camera is: the first is word 5, and behind the last comes the number of pixels.
+explain_number() {
+  if [ "$1" -le 18 ]; then
+    explain_word $((4 + $1))
+  else
+    echo "words 5 and 6 are $(quoted "${words[5]}") and $(quoted "${words[6]}"): W times H is at most 9437184"
+  fi
+}
+
+# Says which of the words that fit asks for what isn't built.
+explain_unbuilt() {
+  local at
+  case ${words[0]} in
+    trial) echo "word 0 is 'trial', which isn't built" ;;
+    serve) echo "word 6 is $(quoted "${words[6]-}"): more than one pair of IN and OUT isn't built" ;;
+    draw)
+      for at in '4 ortho' '23 class' '24 all' '25 show'; do
+        if [ "${words[${at% *}]-}" != "${at#* }" ]; then
+          echo "word ${at% *} is $(quoted "${words[${at% *}]-}"), where ${at#* } alone is built"
+          return
+        fi
+      done
+      ;;
+  esac
+}
+
 # The further line for a status, or none.
 explain() {
   local status=$1 told fault statuses at what
-  if [ "$status" -eq 2 ]; then
+  if [ "$status" -eq 2 ] || [ "$status" -eq 3 ]; then
     # Words are refused before anything is opened or changed, so the program can be asked once more.
     told=$("$program" "${words[@]}" 2>&1 >/dev/null </dev/null)
     if [[ $told =~ ^word\ ([0-9]{1,6})\ is\ not\ expected$ ]]; then explain_word "${BASH_REMATCH[1]}"; fi
+    if [[ $told =~ ^camera\ number\ ([0-9]{1,2})\ is\ out\ of\ range: ]]; then explain_number "${BASH_REMATCH[1]}"; fi
     return
   fi
+  if [ "$status" -eq 12 ]; then explain_unbuilt; fi
   for fault in "${faults[@]}"; do
     statuses=${fault%%|*} fault=${fault#*|}
     at=${fault%%|*} what=${fault#*|}
@@ -213,7 +280,6 @@ explain() {
 
 # Hands a signal on to the program, or takes it where there is none yet.
 pass() {
-  passed=1
   if [ -n "$child" ]; then
     kill -s "$1" "$child" 2>/dev/null
   else
@@ -237,8 +303,8 @@ end_by() {
 # Runs the program as a child that has the streams and the signals as they are here, and ends as it ended.
 # A stop of this shell alone isn't handed on.
 run_and_explain() {
-  local signals=(HUP INT QUIT USR1 USR2 ALRM TERM) signal errors input status before=127 parent=()
-  child='' passed=''
+  local signals=(HUP INT QUIT USR1 USR2 ALRM TERM) signal errors input status='' tick parent=()
+  child=''
   # Where this launcher is killed, the program goes too.
   if command -v setpriv >/dev/null; then parent=(setpriv --pdeathsig KILL --); fi
   # shellcheck disable=SC2064
@@ -254,9 +320,17 @@ run_and_explain() {
   # An end that the program closes has no other holder here.
   exec {errors}>&2 2>/dev/null </dev/null >/dev/null
   if [ "$input" != - ]; then exec {input}<&-; fi
-  while wait "$child"; status=$?; [ -n "$passed" ]; do passed='' before=$status; done
-  # A signal that came just after the wait asks for the status a second time.
-  if [ "$status" -eq 127 ]; then status=$before; fi
+  # bash doesn't see a signal that comes just before it waits, so it looks up each second.
+  while [ -z "$status" ]; do
+    sleep 1 {errors}>&- &
+    tick=$!
+    wait -n "$child" "$tick"
+    kill "$tick"
+    if ! kill -0 "$child"; then
+      wait "$child"
+      status=$?
+    fi
+  done
   if [ "$status" -gt 128 ]; then end_by "$status"; fi
   for signal in "${signals[@]}"; do trap - "$signal"; done
   exec 2>&"$errors"
