@@ -7,17 +7,11 @@ use lib.Signed.{non_neg}
 use mir.Val.{to_z, of_z}
 use mir.Syntax.{w32, w64, w128}
 use Rattle.view_base.specs.declared.place.Point.{Point}
-use Rattle.view_meaning.specs.Camera.{orthographic}
-use Rattle.int_camera.specs.declared.numbers.Kind.{Kind}
-use Rattle.int_camera.specs.declared.numbers.Kind.TheVariants.{Ortho}
+use Rattle.view_meaning.specs.Camera.{Projection, orthographic, perspective}
 use Rattle.int_camera.specs.declared.numbers.CameraLimit.{CameraLimit}
-use Rattle.int_camera.specs.Limits.{first_outside, is_outside, number, point_from, projection_of, ranges}
+use Rattle.int_camera.specs.Limits.{first_outside, is_outside, number, point_from, scale_range, near_range, ranges}
 use Rattle.int_camera.specs.Kept.{IsCoordinate, IsVector}
 use Rattle.int_camera.proofs.Limits.{is_outside-at, is_outside-pixels, none_passes, within}
-
--- the only kind there is
-pub projection_of-is : (kind : Kind) → projection_of kind ≡ orthographic
-projection_of-is Ortho = refl
 
 -- a search that maps what it finds
 none_found : (f : ℕ → CameraLimit) (o : Option ℕ) → option_map f o ≡ None → o ≡ None
@@ -25,18 +19,28 @@ none_found f None e = refl
 none_found f (Some x) e = absurd (let h : Some (f x) ≡ None = e in cc)
 
 -- no place is out of its range
-nowhere_outside : (n : List ℤ) → first_outside orthographic n ≡ None → (j : ℕ) → j < 19 → is_outside orthographic n (1 + j) ≡ false
+nowhere_outside : (kind : Projection) (n : List ℤ) → first_outside kind n ≡ None → (j : ℕ) → j < 19 → is_outside kind n (1 + j) ≡ false
 unfolding first_outside
-nowhere_outside n none j lt =
-    none_passes (is_outside orthographic n) 1 19 (none_found _ (find (is_outside orthographic n) (range_with_len 1 19)) none) j lt
+nowhere_outside kind n none j lt =
+    none_passes (is_outside kind n) 1 19 (none_found _ (find (is_outside kind n) (range_with_len 1 19)) none) j lt
 
 -- the range of one of the eighteen
-pub ranged : (n : List ℤ) → length n ≡ 18 → first_outside orthographic n ≡ None → (i : ℕ) → i < 18 → ((get_or (ranges orthographic (number n 17)) i (pos 0, pos 0)).0 ≤ℤ get_or n i (pos 0)) × (get_or n i (pos 0) ≤ℤ (get_or (ranges orthographic (number n 17)) i (pos 0, pos 0)).1)
-ranged n len none i lt =
-    within (get_or (ranges orthographic (number n 17)) i (pos 0, pos 0)) (get_or n i (pos 0)) (sym (is_outside-at orthographic n i len lt) ∙ nowhere_outside n none i (omega arith))
+pub ranged : (kind : Projection) (n : List ℤ) → length n ≡ 18 → first_outside kind n ≡ None → (i : ℕ) → i < 18 → ((get_or (ranges kind (number n 17)) i (pos 0, pos 0)).0 ≤ℤ get_or n i (pos 0)) × (get_or n i (pos 0) ≤ℤ (get_or (ranges kind (number n 17)) i (pos 0, pos 0)).1)
+ranged kind n len none i lt =
+    within (get_or (ranges kind (number n 17)) i (pos 0, pos 0)) (get_or n i (pos 0)) (sym (is_outside-at kind n i len lt) ∙ nowhere_outside kind n none i (omega arith))
 
--- the numbers of an orthographic camera in their ranges
-pub record InRange (n : List ℤ) : Type 0 where
+-- no scale is above that of an orthographic camera
+scale_range-within : (kind : Projection) (z : ℤ) → ((scale_range kind).0 ≤ℤ z) × (z ≤ℤ (scale_range kind).1) → (pos 1 ≤ℤ z) × (z ≤ℤ pos (2 ^ 40))
+scale_range-within orthographic z h = h
+scale_range-within perspective z h = (h.0, omega (arith, ints, h.1))
+
+-- no least depth is below zero
+near_range-within : (kind : Projection) (z : ℤ) → ((near_range kind).0 ≤ℤ z) × (z ≤ℤ (near_range kind).1) → (pos 0 ≤ℤ z) × (z ≤ℤ pos (2 ^ 32 - 2))
+near_range-within orthographic z h = h
+near_range-within perspective z h = (omega (arith, ints, h.0), h.1)
+
+-- the numbers of a camera in their ranges
+pub record InRange (kind : Projection) (n : List ℤ) : Type 0 where
   pub width : (pos 1 ≤ℤ number n 1) × (number n 1 ≤ℤ pos 4096)
   pub height : (pos 1 ≤ℤ number n 2) × (number n 2 ≤ℤ pos 4096)
   pub eye_x : (neg_ℤ (pos 2147483648) ≤ℤ number n 3) × (number n 3 ≤ℤ pos 2147483647)
@@ -52,35 +56,38 @@ pub record InRange (n : List ℤ) : Type 0 where
   pub forward_y : (neg_ℤ (pos 32768) ≤ℤ number n 13) × (number n 13 ≤ℤ pos 32767)
   pub forward_z : (neg_ℤ (pos 32768) ≤ℤ number n 14) × (number n 14 ≤ℤ pos 32767)
   pub scale : (pos 1 ≤ℤ number n 15) × (number n 15 ≤ℤ pos (2 ^ 40))
+  pub of_kind : number n 15 ≤ℤ (scale_range kind).1
+  pub ahead : (near_range kind).0 ≤ℤ number n 17
   pub unit : (pos 1 ≤ℤ number n 16) × (number n 16 ≤ℤ pos (2 ^ 40))
   pub near : (pos 0 ≤ℤ number n 17) × (number n 17 ≤ℤ pos (2 ^ 32 - 2))
   pub far : (number n 17 ≤ℤ number n 18) × (number n 18 ≤ℤ pos (2 ^ 32 - 2))
   pub pixels : (number n 1 *ℤ number n 2) ≤ℤ pos 9437184
 
-pub in_range : (kind : Kind) (n : List ℤ) → length n ≡ 18 → first_outside (projection_of kind) n ≡ None → InRange n
-in_range kind n len given =
-    let none : first_outside orthographic n ≡ None = rw projection_of-is at given in
-    let last : is_outside orthographic n 19 ≡ false = nowhere_outside n none 18 (omega arith) in
+pub in_range : (kind : Projection) (n : List ℤ) → length n ≡ 18 → first_outside kind n ≡ None → InRange kind n
+in_range kind n len none =
+    let last : is_outside kind n 19 ≡ false = nowhere_outside kind n none 18 (omega arith) in
     record {
-      width = ranged n len none 0 (omega arith);
-      height = ranged n len none 1 (omega arith);
-      eye_x = ranged n len none 2 (omega arith);
-      eye_y = ranged n len none 3 (omega arith);
-      eye_z = ranged n len none 4 (omega arith);
-      right_x = ranged n len none 5 (omega arith);
-      right_y = ranged n len none 6 (omega arith);
-      right_z = ranged n len none 7 (omega arith);
-      down_x = ranged n len none 8 (omega arith);
-      down_y = ranged n len none 9 (omega arith);
-      down_z = ranged n len none 10 (omega arith);
-      forward_x = ranged n len none 11 (omega arith);
-      forward_y = ranged n len none 12 (omega arith);
-      forward_z = ranged n len none 13 (omega arith);
-      scale = ranged n len none 14 (omega arith);
-      unit = ranged n len none 15 (omega arith);
-      near = ranged n len none 16 (omega arith);
-      far = ranged n len none 17 (omega arith);
-      pixels = (within (pos 1, pos 9437184) (number n 1 *ℤ number n 2) (sym (is_outside-pixels orthographic n len) ∙ last)).1;
+      width = ranged kind n len none 0 (omega arith);
+      height = ranged kind n len none 1 (omega arith);
+      eye_x = ranged kind n len none 2 (omega arith);
+      eye_y = ranged kind n len none 3 (omega arith);
+      eye_z = ranged kind n len none 4 (omega arith);
+      right_x = ranged kind n len none 5 (omega arith);
+      right_y = ranged kind n len none 6 (omega arith);
+      right_z = ranged kind n len none 7 (omega arith);
+      down_x = ranged kind n len none 8 (omega arith);
+      down_y = ranged kind n len none 9 (omega arith);
+      down_z = ranged kind n len none 10 (omega arith);
+      forward_x = ranged kind n len none 11 (omega arith);
+      forward_y = ranged kind n len none 12 (omega arith);
+      forward_z = ranged kind n len none 13 (omega arith);
+      scale = scale_range-within kind (number n 15) (ranged kind n len none 14 (omega arith));
+      of_kind = (ranged kind n len none 14 (omega arith)).1;
+      ahead = (ranged kind n len none 16 (omega arith)).0;
+      unit = ranged kind n len none 15 (omega arith);
+      near = near_range-within kind (number n 17) (ranged kind n len none 16 (omega arith));
+      far = ranged kind n len none 17 (omega arith);
+      pixels = (within (pos 1, pos 9437184) (number n 1 *ℤ number n 2) (sym (is_outside-pixels kind n len) ∙ last)).1;
     }
 
 -- a number that is cast to 32 bits without a sign
@@ -105,6 +112,24 @@ abs_within z low high small given =
       abs_within_of : (z : ℤ) → (pos low ≤ℤ z) × (z ≤ℤ pos high) → (low ≤ nat_abs z) × (nat_abs z ≤ high)
       abs_within_of (pos n) given = (omega (arith, ints), omega (arith, ints))
       abs_within_of (negsuc n) given = absurd (omega (arith, ints))
+
+-- a scale that was cast is below the greatest of its kind
+pub scale_kept : (kind : Projection) (z : ℤ) → (pos 1 ≤ℤ z) × (z ≤ℤ pos (2 ^ 40)) → z ≤ℤ (scale_range kind).1 → (1 ≤ nat_abs (to_z w128 (of_z w128 z))) × (pos (nat_abs (to_z w128 (of_z w128 z))) ≤ℤ (scale_range kind).1)
+scale_kept kind z given of_kind =
+    let fits : FitsSigned w128 z = omega (arith, ints) in
+    simp to_z-of_z (kept z (scale_range kind).1 given of_kind) where
+      kept : (z most : ℤ) → (pos 1 ≤ℤ z) × (z ≤ℤ pos (2 ^ 40)) → z ≤ℤ most → (1 ≤ nat_abs z) × (pos (nat_abs z) ≤ℤ most)
+      kept (pos n) most given of_kind = (omega (arith, ints, given), of_kind)
+      kept (negsuc n) most given of_kind = absurd (omega (arith, ints, given))
+
+-- a least depth that was cast is at least the least of its kind
+pub near_kept : (kind : Projection) (z : ℤ) → (pos 0 ≤ℤ z) × (z ≤ℤ pos (2 ^ 32 - 2)) → (near_range kind).0 ≤ℤ z → (near_range kind).0 ≤ℤ pos (nat_abs (to_z w128 (of_z w128 z)))
+near_kept kind z given of_kind =
+    let fits : FitsSigned w128 z = omega (arith, ints) in
+    simp to_z-of_z (kept z (near_range kind).0 given of_kind) where
+      kept : (z least : ℤ) → (pos 0 ≤ℤ z) × (z ≤ℤ pos (2 ^ 32 - 2)) → least ≤ℤ z → least ≤ℤ pos (nat_abs z)
+      kept (pos n) least given of_kind = of_kind
+      kept (negsuc n) least given of_kind = absurd (omega (arith, ints, given))
 
 -- so do two of them
 pub abs_in_order : (z y : ℤ) → pos 0 ≤ℤ z → (z ≤ℤ y) × (y ≤ℤ pos (2 ^ 32 - 2)) → nat_abs (to_z w128 (of_z w128 z)) ≤ nat_abs (to_z w128 (of_z w128 y))

@@ -1,5 +1,5 @@
 -- A column or row without a division: the distance is counted from the edge first.
-use Rattle.std.proofs.Common.{◌≡◌, ℕ, suc, ◌+◌, ◌-◌, ◌*◌, ◌/◌, ◌%◌, ◌<◌, ◌≤◌, ◌⊎◌, inl, inr, ℤ, pos, negsuc, ◌+ℤ◌, ◌<ℤ◌, ◌≤ℤ◌, nat_abs, Some, None, nat_lt, true, false, sym, ◌∙◌, ap, subst, arith, rules}
+use Rattle.std.proofs.Common.{◌≡◌, ℕ, suc, ◌+◌, ◌-◌, ◌*◌, ◌/◌, ◌%◌, ◌^◌, ◌<◌, ◌≤◌, ◌⊎◌, inl, inr, ℤ, pos, negsuc, ◌+ℤ◌, ◌<ℤ◌, ◌≤ℤ◌, nat_abs, unsigned_abs, Some, None, nat_lt, true, false, refl, mul-le-mul, sym, ◌∙◌, ap, subst, arith, rules}
 use Rattle.std.proofs.Math.Nat.{add-mul-div_right}
 use Rattle.std.proofs.lemmas.Bool.{cases_lt}
 use Rattle.std.proofs.lemmas.Int.{ints}
@@ -66,3 +66,23 @@ pub from_edge-inside : (a t : ℤ) (k size : ℕ) → 0 < k → t ≡ a +ℤ pos
 from_edge-inside a (pos n) k size h e low lt =
     edge_inside (floor a k) size (n / k) (sym (floor-add a (size / 2) k h) ∙ ap (λ (z : ℤ). floor z k) (sym e)) (div_below n k size h lt)
 from_edge-inside a (negsuc n) k size h e low lt = absurd (omega (arith, ints))
+
+-- half of a picture's size
+pub half_sizes : (size k : ℕ) → size ≤ 4096 → k ≤ 2 ^ 49 → (size / 2 * k ≤ 2 ^ 60) × (size * k ≤ size / 2 * k + 2 ^ 60)
+half_sizes size k small near =
+    let half : size / 2 ≤ 2048 = omega arith in
+    let rest : size - size / 2 ≤ 2048 = omega arith in
+    let whole : size ≡ size / 2 + (size - size / 2) = omega arith in
+    let first : size / 2 * k ≤ 2048 * 2 ^ 49 = mul-le-mul half near in
+    let second : (size - size / 2) * k ≤ 2048 * 2 ^ 49 = mul-le-mul rest near in
+    let sum : size * k ≡ size / 2 * k + (size - size / 2) * k = ap (λ (n : ℕ). n * k) whole ∙ omega arith in
+    (omega (arith, first), omega (arith, sum, second))
+
+-- none of a distance that no picture reaches
+pub from_edge-beside : (a : ℤ) (k size : ℕ) → 0 < k → k ≤ 2 ^ 49 → size ≤ 4096 → 2 ^ 60 < unsigned_abs a → from_edge (floor a k) size ≡ None
+from_edge-beside (pos n) k size h near small far =
+    let bounds = half_sizes size k small near in
+    from_edge-past (pos n) (pos (n + size / 2 * k)) k size h refl (omega (arith, ints)) (omega (arith, bounds.1, far))
+from_edge-beside (negsuc n) k size h near small far =
+    let bounds = half_sizes size k small near in
+    from_edge-before (negsuc n) (negsuc n +ℤ pos (size / 2 * k)) k size h refl (omega (arith, ints, bounds.0, far))

@@ -1,16 +1,28 @@
 -- The numbers of a camera: the range of each, the first that is out of its range, and the camera that they describe.
-use Rattle.std.specs.Prelude.{ℕ, ◌+◌, ◌-◌, ◌*◌, ◌^◌, Bool, ◌||◌, ℤ, pos, neg_ℤ, ◌*ℤ◌, int_lt, unsigned_abs, List, [], ◌∷◌, ◌++◌, slice_index_or, Option}
+use Rattle.std.specs.Prelude.{◌≡◌, ℕ, ◌+◌, ◌-◌, ◌^◌, Bool, ◌||◌, ℤ, pos, neg_ℤ, ◌*ℤ◌, int_lt, unsigned_abs, List, [], ◌∷◌, ◌++◌, slice_index_or, Option}
+use Rattle.std.proofs.Common.{refl}
 use Rattle.std.specs.List.{find, range_with_len}
 use Rattle.std.specs.Option.{option_map}
 use Rattle.view_base.specs.declared.place.Point.{Point}
 use Rattle.view_meaning.specs.Camera.{Projection, orthographic, perspective, Lens}
 use Rattle.int_camera.specs.declared.numbers.Kind.{Kind}
-use Rattle.int_camera.specs.declared.numbers.Kind.TheVariants.{Ortho}
+use Rattle.int_camera.specs.declared.numbers.Kind.TheVariants.{Ortho, Persp}
 use Rattle.int_camera.specs.declared.numbers.CameraLimit.{CameraLimit}
 
 -- the projection of a kind of camera
 abbrev pub projection_of : Kind → Projection
 projection_of Ortho = orthographic
+projection_of Persp = perspective
+
+-- the kind of camera that maps by a projection
+abbrev pub kind_of : Projection → Kind
+kind_of orthographic = Ortho
+kind_of perspective = Persp
+
+-- a kind is that of its projection
+pub kind_of_projection : (kind : Kind) → kind_of (projection_of kind) ≡ kind
+kind_of_projection Ortho = refl
+kind_of_projection Persp = refl
 
 -- the number of a place from 1
 abbrev pub number : List ℤ → ℕ → ℤ

@@ -1,17 +1,20 @@
-ghost use Rattle.std.specs.Prelude.{◌≡◌};
-ghost use Rattle.int_camera.specs.Limits.{first_outside, is_out, projection_of, ranges};
+ghost use Rattle.std.specs.Prelude.{◌≡◌, pos};
+ghost use Rattle.int_camera.specs.Limits.{deepest, first_outside, is_out, near_range, projection_of, ranges, scale_range};
 
 /// How a camera maps points.
 #[derive(Clone, Copy, Debug, PartialEq, Eq)]
 pub enum Kind {
     /// Parallel to its forward vector.
     Ortho,
+    /// Through its eye.
+    Persp,
 }
 
 /// The numbers of a camera in the order of their places, which count from 1: width and height in
 /// pixels (1, 2), the eye (3 to 5) and the vectors to the right (6 to 8), down (9 to 11) and
-/// forward (12 to 14) in the file's integer units, the scale (15), the unit of depth (16), and the
-/// least and the greatest depth that shows, in that unit (17, 18).
+/// forward (12 to 14) in the file's integer units, the scale, or the focal number of a camera in
+/// perspective (15), the unit of depth (16), and the least and the greatest depth that shows, in
+/// that unit (17, 18).
 #[derive(Clone, Copy, Debug, PartialEq, Eq)]
 pub struct CameraNumbers {
     pub kind: Kind,
@@ -64,27 +67,45 @@ fn ranges_of(kind: Kind, near: i128) -> [(i128, i128); 19]
     let coordinate = (-2147483648, 2147483647);
     let part = (-32768, 32767);
     let deepest = 4294967294;
+    [
+        side,
+        side,
+        coordinate,
+        coordinate,
+        coordinate,
+        part,
+        part,
+        part,
+        part,
+        part,
+        part,
+        part,
+        part,
+        part,
+        (1, greatest_scale(kind)),
+        (1, 1099511627776),
+        (least_near(kind), deepest),
+        (near, deepest),
+        (1, 9437184),
+    ]
+}
+
+/// The greatest scale, or focal number.
+fn greatest_scale(kind: Kind) -> i128
+    ensures { (pos 1, result) ≡ scale_range (projection_of kind) }
+{
     match kind {
-        Kind::Ortho => [
-            side,
-            side,
-            coordinate,
-            coordinate,
-            coordinate,
-            part,
-            part,
-            part,
-            part,
-            part,
-            part,
-            part,
-            part,
-            part,
-            (1, 1099511627776),
-            (1, 1099511627776),
-            (0, deepest),
-            (near, deepest),
-            (1, 9437184),
-        ],
+        Kind::Ortho => 1099511627776,
+        Kind::Persp => 1048576,
+    }
+}
+
+/// The least of the least depths: what is seen in perspective is ahead of the eye.
+fn least_near(kind: Kind) -> i128
+    ensures { (result, deepest) ≡ near_range (projection_of kind) }
+{
+    match kind {
+        Kind::Ortho => 0,
+        Kind::Persp => 1,
     }
 }

@@ -114,3 +114,93 @@ fn the_first_number_out_of_range_is_named(rt: HostRuntime) {
         })
     );
 }
+
+/// A camera in perspective of two pixels at the origin that looks along Z.
+fn two_pixels() -> CameraNumbers {
+    CameraNumbers {
+        kind: Kind::Persp,
+        n: [2, 1, 0, 0, 0, 1, 0, 0, 0, 1, 0, 0, 0, 1, 1, 1, 1, 10],
+    }
+}
+
+#[test]
+fn a_column_left_of_the_middle_is_rounded_down(rt: HostRuntime) -> Result<(), CameraLimit> {
+    let camera = Camera::new(&two_pixels())?;
+    assert_eq!(rt;
+        project(&camera, Point { x: -1, y: 0, z: 2 }),
+        Some(Spot { pixel: 0, depth: 2 })
+    );
+    assert_eq!(rt; project(&camera, Point { x: 0, y: 0, z: 0 }), None);
+    assert_eq!(rt; project(&camera, Point { x: 1, y: 0, z: -2 }), None);
+    Ok(())
+}
+
+#[test]
+fn the_ranges_of_perspective_are_its_own(rt: HostRuntime) {
+    let mut numbers = two_pixels();
+    numbers.n[14] = 1048576;
+    assert_eq!(rt; limit(&numbers), None);
+    numbers.n[14] = 1048577;
+    assert_eq!(rt;
+        limit(&numbers),
+        Some(CameraLimit {
+            place: 15,
+            value: 1048577
+        })
+    );
+    let mut close = two_pixels();
+    close.n[16] = 0;
+    assert_eq!(rt;
+        limit(&close),
+        Some(CameraLimit {
+            place: 17,
+            value: 0
+        })
+    );
+}
+
+/// The column at which the widest picture shows the corner that is farthest from its eye, through a
+/// vector to the right of equal parts.
+fn widest(part: i128) -> Result<Option<u32>, CameraLimit> {
+    let eye = 2147483647;
+    let ahead = -32768;
+    let camera = Camera::new(&CameraNumbers {
+        kind: Kind::Persp,
+        n: [
+            4096,
+            2304,
+            eye,
+            eye,
+            eye,
+            part,
+            part,
+            part,
+            0,
+            0,
+            0,
+            ahead,
+            ahead,
+            ahead,
+            1048576,
+            1099511627776,
+            1,
+            4294967294,
+        ],
+    })?;
+    let corner = Point {
+        x: -2147483648,
+        y: -2147483648,
+        z: -2147483648,
+    };
+    Ok(project(&camera, corner).map(|spot| spot.pixel % 4096))
+}
+
+#[test]
+fn the_widest_perspective_ends_at_its_edges(rt: HostRuntime) -> Result<(), CameraLimit> {
+    // The distance to the right is part / -32768 of the distance ahead, and 2^20 magnifies it.
+    assert_eq!(rt; widest(64)?, Some(0));
+    assert_eq!(rt; widest(-63)?, Some(4064));
+    assert_eq!(rt; widest(-64)?, None);
+    assert_eq!(rt; widest(-32768)?, None);
+    Ok(())
+}

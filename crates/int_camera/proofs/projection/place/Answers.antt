@@ -8,26 +8,26 @@ returns-then-offset-lt0-clause-value c =
     let t : ℤ = c.from_near_edge-offset.result in
     let fits = c.ranges.distance in
     let t_fits : FitsSigned w64 t = search rules in
-    let e : t ≡ c.args.distance +ℤ pos (c.args.size / 2 * c.args.scale) = simp to_z-of_z at c.from_near_edge-offset.ensures in
+    let e : t ≡ c.args.distance +ℤ pos (c.args.size / 2 * c.args.step) = simp to_z-of_z at c.from_near_edge-offset.ensures in
     let lt : t <ℤ pos 0 = grind (arith, ints, to_z-of_z, c.if-offset-lt0.true) in
-    sym (from_edge-before c.args.distance t c.args.scale c.args.size (omega arith) e lt)
+    sym (from_edge-before c.args.distance t c.args.step c.args.size (omega arith) e lt)
 
 pub returns-then-offset-from-clause-value : goal.returns-then-offset-from-clause-value
 returns-then-offset-from-clause-value c =
     let t : ℤ = c.from_near_edge-offset.result in
     let fits = c.ranges.distance in
     let t_fits : FitsSigned w64 t = search rules in
-    let e : t ≡ c.args.distance +ℤ pos (c.args.size / 2 * c.args.scale) = simp to_z-of_z at c.from_near_edge-offset.ensures in
+    let e : t ≡ c.args.distance +ℤ pos (c.args.size / 2 * c.args.step) = simp to_z-of_z at c.from_near_edge-offset.ensures in
     let low : pos 0 ≤ℤ t = grind (arith, ints, to_z-of_z, c.if-offset-lt0.false) in
-    let reaches : c.args.size * c.args.scale ≤ nat_abs t = rw (← c.from.ensures) (simp to_z-of_z at c.if-offset-from.true) in
-    sym (from_edge-past c.args.distance t c.args.scale c.args.size (omega arith) e low reaches)
+    let reaches : c.args.size * c.args.step ≤ nat_abs t = rw (← c.from.ensures) (simp to_z-of_z at c.if-offset-from.true) in
+    sym (from_edge-past c.args.distance t c.args.step c.args.size (omega arith) e low reaches)
 
 pub returns-clause-value : goal.returns-clause-value
 returns-clause-value c =
     let t : ℤ = c.from_near_edge-offset.result in
     let fits = c.ranges.distance in
     let t_fits : FitsSigned w64 t = search rules in
-    let e : t ≡ c.args.distance +ℤ pos (c.args.size / 2 * c.args.scale) = simp to_z-of_z at c.from_near_edge-offset.ensures in
+    let e : t ≡ c.args.distance +ℤ pos (c.args.size / 2 * c.args.step) = simp to_z-of_z at c.from_near_edge-offset.ensures in
     let low : pos 0 ≤ℤ t = grind (arith, ints, to_z-of_z, c.if-offset-lt0.false) in
-    let short : nat_abs t < c.args.size * c.args.scale = rw (← c.from.ensures) (simp to_z-of_z at c.if-offset-from.false) in
-    simp to_z-of_z (sym (from_edge-inside c.args.distance t c.args.scale c.args.size (omega arith) e low short))
+    let short : nat_abs t < c.args.size * c.args.step = rw (← c.from.ensures) (simp to_z-of_z at c.if-offset-from.false) in
+    simp to_z-of_z (sym (from_edge-inside c.args.distance t c.args.step c.args.size (omega arith) e low short))
