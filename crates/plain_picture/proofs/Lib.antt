@@ -1,4 +1,1 @@
-pub mod Colouring
-pub mod Lengths
 pub mod Plain
-pub mod Shown

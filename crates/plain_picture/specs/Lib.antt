@@ -1,4 +1,1 @@
-pub mod Names
-pub mod Passing
 pub mod Plotted
-pub mod Shown

@@ -1,12 +1,9 @@
-//! The picture of a survey by one plain loop: each record is looked at once, and each pixel keeps
-//! the nearest. It is what every faster way of drawing is compared with.
+//! The nearest records of a survey by one plain loop: each record is looked at once, and each pixel
+//! keeps the nearest. It is what every faster way of drawing is compared with.
 #![tactic(auto)]
 
-mod colours;
-mod drawing;
+mod filtering;
 mod frame;
-#[cfg(test)]
-mod tests;
 
-pub use drawing::{Scene, picture};
+pub use filtering::passes;
 pub use frame::nearest_words;

@@ -7,3 +7,6 @@ mod Taking
 mod Processing
 mod Examples
 mod Answered
+mod Lengths
+mod Shown
+mod Naming

@@ -9,12 +9,12 @@ ghost use Rattle.sessions.specs.Lines.{items_of, without_cr};
 ghost use Rattle.sessions.specs.Talk.{IsSound, Answered, AnsweredAll};
 ghost use Rattle.sessions.specs.Giving.{Gave};
 
+use crate::drawing::{Scene, picture};
 use crate::heads::{HEAD, append_head, append_refusal};
 use crate::pending::LINE;
 use crate::talk::Talk;
 use edit_ops::Edit;
 use las_write::write_survey;
-use plain_picture::{Scene, picture};
 use ppm_out::ppm_length;
 use std::alloc::Global;
 use view_base::{Bytes, next_word};

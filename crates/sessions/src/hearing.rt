@@ -8,9 +8,9 @@ ghost use Rattle.sessions.specs.Hearing.{HasHeard, IsPending};
 ghost use Rattle.sessions.specs.Giving.{Gave};
 
 use crate::answering::{answer_line, answer_refusal};
+use crate::drawing::Scene;
 use crate::pending::Pending;
 use crate::talk::Talk;
-use plain_picture::Scene;
 use std::alloc::Global;
 use view_ends::{Beside, EndFault, Sink};
 use view_lines::Refusal;

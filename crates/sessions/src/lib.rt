@@ -3,6 +3,8 @@
 #![tactic(auto)]
 
 mod answering;
+mod counting;
+mod drawing;
 mod end;
 mod heads;
 mod hearing;
@@ -10,6 +12,8 @@ mod pending;
 mod serving;
 mod talk;
 
+pub use counting::count_passing;
+pub use drawing::{Scene, picture};
 pub use end::{Ends, Marks, Reason, SessionEnd};
 pub use serving::serve_alone;
 pub use version_store::{Entry, History, What};

@@ -7,12 +7,12 @@ ghost use Rattle.sessions.specs.Listening.{Listened, Read, Wrote, reason_of};
 ghost use Rattle.sessions.specs.Session.{Served};
 ghost use Rattle.sessions.specs.declared.end.Reason.TheVariants.{Memory, ReadFault, WriteFault};
 
+use crate::drawing::Scene;
 use crate::end::{Marks, Reason, SessionEnd};
 use crate::hearing::{hear, hear_end};
 use crate::pending::Pending;
 use crate::talk::Talk;
 use class_pages::base;
-use plain_picture::Scene;
 use std::alloc::Global;
 use version_store::History;
 use view_ends::{Beside, EndFault, Failed, Sink, Source};

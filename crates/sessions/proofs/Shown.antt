@@ -7,8 +7,8 @@ use Rattle.std.specs.List.{flat_map, range_with_len}
 use Rattle.view_meaning.specs.Picture.{View, Shows, shown, nearest, pixel, picture_row, picture, ppm_header}
 use Rattle.view_meaning.proofs.Law.{nearest_shows}
 use Rattle.view_meaning.proofs.Rows.{range-append}
-use Rattle.plain_picture.specs.Shown.{bytes_of_pixel, ShowsNearest}
-use Rattle.plain_picture.proofs.Lengths.{length-pixel, length-flat_map_each}
+use Rattle.sessions.specs.Shown.{bytes_of_pixel, ShowsNearest}
+use Rattle.sessions.proofs.Lengths.{length-pixel, length-flat_map_each}
 
 -- a piece between others
 piece_at : (before piece after : List ℕ) (at size : ℕ) → at ≡ length before → size ≡ length piece → take size (drop at (before ++ piece ++ after)) ≡ piece

@@ -1,14 +1,14 @@
-ghost use Rattle.std.specs.Prelude.{◌≡◌, ◌+◌, ◌*◌, ◌≤◌, ◌++◌, OnOk, OnErr, length, drop};
+ghost use Rattle.std.specs.Prelude.{◌≡◌, ◌+◌, ◌*◌, ◌≤◌, ◌++◌, OnOk, OnErr, length, drop, true};
 ghost use Rattle.std.specs.Arc.{arc_value};
-ghost use Rattle.plain_picture.specs.Shown.{ShowsNearest};
-ghost use Rattle.view_meaning.specs.Picture.{by_class, picture, ppm_header};
-ghost use Rattle.view_meaning.specs.Survey.{record_count};
+ghost use Rattle.sessions.specs.Shown.{ShowsNearest};
+ghost use Rattle.view_meaning.specs.Picture.{can_colour, picture, ppm_header};
+ghost use Rattle.view_meaning.specs.Survey.{record_count, format_of};
 
-use crate::colours::append_colours;
-use crate::frame::nearest_words;
 use class_pages::Classes;
 use las_survey::Survey;
+use plain_picture::nearest_words;
 use ppm_out::{HEADER, ppm_header};
+use resolve_colour::colours;
 use std::alloc::Global;
 use std::sync::Arc;
 use view_base::{Bytes, OutOfMemory};
@@ -37,7 +37,7 @@ pub fn picture<B: Beside>(
 ) -> Result<(), OutOfMemory>
     requires workers { (1 ≤ scene.now.workers) × (scene.now.workers ≤ 64) }
     requires records { length classes.now ≡ record_count (arc_value scene.now.survey) }
-    requires by_class { view.now ≡ by_class view.now.camera }
+    requires can_colour { can_colour (format_of (arc_value scene.now.survey)) view.now.colouring ≡ true }
     ensures drawn { OnOk result (out.new.items ≡ out.old.items ++ picture (arc_value scene.now.survey) classes.now view.now) }
     ensures size { OnOk result (length (picture (arc_value scene.now.survey) classes.now view.now)
         ≡ length (ppm_header view.now.camera.width view.now.camera.height)
@@ -45,10 +45,9 @@ pub fn picture<B: Beside>(
     ensures nearest { OnOk result (ShowsNearest (arc_value scene.now.survey) classes.now view.now (drop (length out.old.items) out.new.items)) }
     ensures refused { OnErr result (out.new.items ≡ out.old.items) }
 {
-    let classes = classes.as_slice();
-    let words = nearest_words(alloc, &*scene.survey, &view.camera)?;
+    let words = nearest_words(alloc, &*scene.survey, classes, view)?;
     out.reserve(HEADER + 3 * words.len())?;
     ppm_header(view.camera.width(), view.camera.height(), out);
-    append_colours(words.as_slice(), classes, out);
+    colours(&words, &*scene.survey, classes, view.colouring, out);
     Ok(())
 }

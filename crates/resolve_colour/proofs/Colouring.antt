@@ -8,7 +8,7 @@ use Rattle.std.specs.List.{flat_map}
 use Rattle.view_base.specs.declared.colour.Colouring.TheVariants.{Class}
 use Rattle.view_meaning.specs.Picture.{class_colour, colour, shown}
 use Rattle.view_meaning.specs.Frame.{record_in, word_colour}
-use Rattle.plain_picture.specs.Names.{NamesOne}
+use Rattle.resolve_colour.specs.Names.{NamesOne}
 
 -- a word that is not all ones names a record
 pub record_in-named : (word : ℕ) → (word ≡ 2 ^ 64 - 1 → ⊥) → record_in word ≡ Some (word % 2 ^ 32)
