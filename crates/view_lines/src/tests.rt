@@ -48,7 +48,7 @@ fn each_kind_of_line_is_its_command(rt: HostRuntime) {
         (b"\tcount  all show".as_slice(), 7, 1001),
         (b"save".as_slice(), 0, 0),
     ] {
-        is_told(rt, line, format, Ok(number));
+        is_told(&rt, line, format, Ok(number));
     }
 }
 
@@ -90,7 +90,7 @@ fn other_lines_are_refused_by_the_first_code_that_applies(rt: HostRuntime) {
             3,
         ),
     ] {
-        is_told(rt, line, format, Err(code));
+        is_told(&rt, line, format, Err(code));
     }
 }
 

@@ -12,14 +12,14 @@ use Rattle.view_meaning.specs.Classes.{Filter, all_classes}
 use Rattle.view_meaning.specs.Picture.{View}
 use Rattle.class_bits.specs.ClassSet.{class_list}
 use Rattle.int_camera.specs.declared.numbers.Kind.{Kind}
-use Rattle.int_camera.specs.declared.numbers.Kind.TheVariants.{Ortho}
+use Rattle.int_camera.specs.declared.numbers.Kind.TheVariants.{Ortho, Persp}
 use Rattle.int_camera.specs.Limits.{first_outside, lens_of, projection_of}
 use Rattle.view_text.specs.declared.fault.TextFault.{TextFault}
 use Rattle.view_text.specs.declared.fault.TextFault.TheVariants.{Line, Limit}
 
 -- the kind of camera that a word names, or none
 unfoldable pub kind : List ℕ → Option Kind
-kind word = if bytes_eq word (codes "ortho") then Some Ortho else if bytes_eq word (codes "persp") then Some Ortho else None
+kind word = if bytes_eq word (codes "ortho") then Some Ortho else if bytes_eq word (codes "persp") then Some Persp else None
 
 -- the colouring that a word names, or none
 unfoldable pub colouring : List ℕ → Option Colouring

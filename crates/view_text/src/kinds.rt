@@ -19,7 +19,7 @@ impl WordKind for CameraWord {
             return Some(Kind::Ortho);
         }
         if word == b"persp".as_slice() {
-            return Some(Kind::Ortho);
+            return Some(Kind::Persp);
         }
         None
     }

@@ -33,3 +33,10 @@ returns-clause-colouring c =
     let said : colouring (word_at ws 19) ≡ Some c.in_ok-colouring.colouring =
     rw (c.in_ok-n.ensures.place, c.in_ok-n.ensures.source, c.in_ok-kind.ensures.source, c.new-rest.ensures.source) at c.in_ok-colouring.ensures.value in
     colouring_in-read ws c.in_ok-colouring.colouring said
+
+pub returns-clause-kind : goal.returns-clause-kind
+returns-clause-kind c =
+    let ws = all_words c.args.source in
+    let said : kind (word_at ws 0) ≡ Some c.in_ok-kind.kind =
+    rw (c.new-rest.ensures.place, c.new-rest.ensures.source) at c.in_ok-kind.ensures.value in
+    camera_kind-read ws c.in_ok-kind.kind said
