@@ -40,12 +40,23 @@ pub fn nearest_words(
 {
     let pixels = view.camera.width() as usize * view.camera.height() as usize;
     let mut words = vec![in alloc; EMPTY; pixels]?;
-    if lets_all_pass(&view.filter) {
-        plot_all(&mut words, survey, classes, view);
-    } else {
-        plot_passing(&mut words, survey, classes, view);
-    }
+    plot_records(&mut words, survey, classes, view);
     Ok(Words::from_vec(words))
+}
+
+/// Plots every record that passes the view's filter into words that are all ones.
+fn plot_records(words: &mut [u64], survey: &Survey, classes: &Classes, view: &ViewSpec)
+    requires records { length classes.now ≡ record_count survey.now }
+    requires empty { words.old ≡ replicate (view.now.camera.width * view.now.camera.height) (2 ^ 64 - 1) }
+    requires deepest { view.now.camera.far ≤ 2 ^ 32 - 2 }
+    ensures words { IsFrame survey.now classes.now view.now words.new }
+    ensures few { record_count survey.now ≤ 53687091 }
+{
+    if lets_all_pass(&view.filter) {
+        plot_all(words, survey, classes, view);
+    } else {
+        plot_passing(words, survey, classes, view);
+    }
 }
 
 /// Whether a filter lets every record pass, whatever its class and flags.
@@ -56,7 +67,7 @@ fn lets_all_pass(filter: &Filter) -> bool
     filter.classes == ClassSet::all() && !filter.hide_withheld
 }
 
-/// Plots every record into words that are all ones, by a view whose filter lets all pass.
+/// Plots every record, where the view's filter lets all pass.
 fn plot_all(words: &mut [u64], survey: &Survey, classes: &Classes, view: &ViewSpec)
     requires records { length classes.now ≡ record_count survey.now }
     requires classes { view.now.filter.classes ≡ all_classes }
@@ -67,11 +78,13 @@ fn plot_all(words: &mut [u64], survey: &Survey, classes: &Classes, view: &ViewSp
     ensures few { record_count survey.now ≤ 53687091 }
 {
     for number in 0..survey.records() {
+        // A class is a byte, and the set of all classes has each byte.
+        prove!(ClassSet::all().has(classes.class_at(number)));
         plot_record(words, survey, &view.camera, number);
     }
 }
 
-/// Plots every record that passes the view's filter into words that are all ones.
+/// Plots every record that passes, whatever the view's filter.
 fn plot_passing(words: &mut [u64], survey: &Survey, classes: &Classes, view: &ViewSpec)
     requires records { length classes.now ≡ record_count survey.now }
     requires empty { words.old ≡ replicate (view.now.camera.width * view.now.camera.height) (2 ^ 64 - 1) }

@@ -1,13 +1,16 @@
--- Colours by class, of words one after another.
-use Rattle.std.proofs.Common.{◌≡◌, ◌<◌, ◌-◌, ◌^◌, ◌%◌, ◌==◌, ◌++◌, append_assoc, All, List, length, length-append, get_or, take, ◌+◌, slice_index, ◌∙◌, ℕ, Bool, false, Option, Some, None, IfSome, if◌then◌else◌, ap, sym, subst, arith, refl}
+-- Colours of records, and of words one after another.
+use Rattle.std.proofs.Common.{◌≡◌, [], ◌∷◌, ◌/◌, min, ◌<◌, ◌-◌, ◌^◌, ◌%◌, ◌==◌, ◌++◌, append_assoc, All, List, length, length-append, get_or, take, ◌+◌, slice_index, ◌∙◌, ℕ, Bool, false, Option, Some, None, IfSome, if◌then◌else◌, ap, sym, subst, arith, refl}
 use Rattle.std.proofs.Math.Seq.{take-append_seam}
 use Rattle.std.proofs.lemmas.Bool.Decides.{nat_tests}
 use Rattle.std.proofs.lemmas.List.{get_or-append-add}
 use Rattle.std.proofs.lemmas.Grind.{flat_map-append}
 use Rattle.std.specs.List.{flat_map}
-use Rattle.view_base.specs.declared.colour.Colouring.TheVariants.{Class}
-use Rattle.view_meaning.specs.Picture.{class_colour, colour, shown}
-use Rattle.view_meaning.specs.Frame.{record_in, word_colour}
+use Rattle.std.specs.Option.{option_map}
+use Rattle.view_base.specs.declared.colour.Rgb.{Rgb}
+use Rattle.view_base.specs.declared.colour.Colouring.TheVariants.{Rgb16, Rgb8, Intensity}
+use Rattle.view_meaning.specs.Survey.{format_of, record_at, rgb_place, rgb_at, intensity_of}
+use Rattle.view_meaning.specs.Picture.{channels, rgb_colour, grey, colour}
+use Rattle.view_meaning.specs.Frame.{record_in}
 use Rattle.resolve_colour.specs.Names.{NamesOne}
 
 -- a word that is not all ones names a record
@@ -17,13 +20,31 @@ record_in-named word full = let no : (word == 2 ^ 64 - 1) ≡ false = grind (ari
 pub named_below : (count word : ℕ) → (word ≡ 2 ^ 64 - 1 → ⊥) → NamesOne count word → word % 2 ^ 32 < count
 named_below count word full names = subst (λ (o : Option ℕ). IfSome o (λ i. i < count)) (record_in-named word full) names
 
--- by class a record has the colour of its class, whatever the survey's bytes
-pub colour-class : (b cs : List ℕ) (i : ℕ) → colour b cs Class i ≡ class_colour (slice_index cs i)
-unfolding colour
-colour-class b cs i = refl
+-- a record of a format that has RGB shows by it
+pub rgb_colour-some : (rule : ℕ → ℕ) (b : List ℕ) (i : ℕ) (rgb : Rgb) (place : Option ℕ) → Some rgb ≡ option_map (λ at. rgb_at b (record_at b i + at)) place
+    → channels rule rgb ≡ rgb_colour rule b i place
+rgb_colour-some rule b i rgb None is = absurd (cc is)
+rgb_colour-some rule b i rgb (Some place) is = let same : rgb ≡ rgb_at b (record_at b i + place) = cc is in ap (channels rule) same
 
-pub word_colour-class : (b cs : List ℕ) (word : ℕ) → (word ≡ 2 ^ 64 - 1 → ⊥) → class_colour (slice_index cs (word % 2 ^ 32)) ≡ word_colour b cs Class word
-word_colour-class b cs word full = sym (ap (shown b cs Class) (record_in-named word full) ∙ colour-class b cs (word % 2 ^ 32))
+three : (a b c x y z : ℕ) → a ≡ x → b ≡ y → c ≡ z → ◌≡◌ {A = List ℕ} (a ∷ b ∷ c ∷ []) (x ∷ y ∷ z ∷ [])
+three a b c x y z first second third = cc (first, second, third)
+
+-- three bytes that each are a rule of a channel, where the colouring is by that rule
+pub channels-each : (rule : ℕ → ℕ) (rgb : Rgb) (red green blue : ℕ) (shown : List ℕ) → red ≡ rule rgb.red → green ≡ rule rgb.green → blue ≡ rule rgb.blue
+    → channels rule rgb ≡ shown → ◌≡◌ {A = List ℕ} (red ∷ green ∷ blue ∷ []) shown
+channels-each rule rgb red green blue shown first second third is = three red green blue (rule rgb.red) (rule rgb.green) (rule rgb.blue) first second third ∙ is
+
+pub colour-rgb16 : (b cs : List ℕ) (i : ℕ) → rgb_colour (λ n. n / 256) b i (rgb_place (format_of b)) ≡ colour b cs Rgb16 i
+unfolding colour
+colour-rgb16 b cs i = refl
+
+pub colour-rgb8 : (b cs : List ℕ) (i : ℕ) → rgb_colour (λ n. min n 255) b i (rgb_place (format_of b)) ≡ colour b cs Rgb8 i
+unfolding colour
+colour-rgb8 b cs i = refl
+
+pub colour-intensity : (b cs : List ℕ) (i n : ℕ) → n ≡ intensity_of b i / 256 → grey n ≡ colour b cs Intensity i
+unfolding colour
+colour-intensity b cs i n is = ap grey is
 
 -- what was appended is the front of a buffer
 pub appended_front : (new old front back : List ℕ) (n : ℕ) → new ≡ old ++ take n (front ++ back) → n ≡ length front → new ≡ old ++ front

@@ -1,8 +1,8 @@
-ghost use Rattle.std.specs.Prelude.{◌≡◌, ◌/◌, ◌<◌, length, min, true};
+ghost use Rattle.std.specs.Prelude.{◌≡◌, ◌/◌, ◌<◌, ℕ, length, min, true};
 ghost use Rattle.view_base.specs.declared.colour.Colouring.{Colouring};
 ghost use Rattle.view_base.specs.declared.colour.Colouring.TheVariants as by;
-ghost use Rattle.view_meaning.specs.Picture.{can_colour, class_colour, colour};
-ghost use Rattle.view_meaning.specs.Survey.{record_count, format_of};
+ghost use Rattle.view_meaning.specs.Picture.{can_colour, channels, class_colour, colour, rgb_colour};
+ghost use Rattle.view_meaning.specs.Survey.{record_count, format_of, rgb_place};
 
 use class_pages::Classes;
 use las_points::{intensity, rgb};
@@ -25,6 +25,7 @@ pub(crate) trait Paint {
 /// The palette of classes.
 pub(crate) struct ByClass;
 
+#[tactic(auto, unfolding(view_meaning::specs::Picture::colour))]
 impl Paint for ByClass {
     ghost colouring = { by.Class };
 
@@ -89,11 +90,12 @@ fn palette(class: u8) -> [u8; 3]
 fn rgb_of(survey: &Survey, number: u32) -> Rgb
     requires can_colour { can_colour (format_of survey.now) by.Rgb16 ≡ true }
     requires number { number < record_count survey.now }
+    ensures { (rule : ℕ → ℕ) → channels rule result ≡ rgb_colour rule survey.now number (rgb_place (format_of survey.now)) }
 {
-    match rgb(survey.header().format, survey.point_bytes(number)) {
-        Some(rgb) => rgb,
-        None => unreachable!(),
-    }
+    let Some(rgb) = rgb(survey.header().format, survey.point_bytes(number)) else {
+        unreachable!()
+    };
+    rgb
 }
 
 /// The upper byte of a channel of 16 bits.

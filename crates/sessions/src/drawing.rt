@@ -45,9 +45,10 @@ pub fn picture<B: Beside>(
     ensures nearest { OnOk result (ShowsNearest (arc_value scene.now.survey) classes.now view.now (drop (length out.old.items) out.new.items)) }
     ensures refused { OnErr result (out.new.items ≡ out.old.items) }
 {
-    let words = nearest_words(alloc, &*scene.survey, classes, view)?;
+    let survey = &*scene.survey;
+    let words = nearest_words(alloc, survey, classes, view)?;
     out.reserve(HEADER + 3 * words.len())?;
     ppm_header(view.camera.width(), view.camera.height(), out);
-    colours(&words, &*scene.survey, classes, view.colouring, out);
+    colours(&words, survey, classes, view.colouring, out);
     Ok(())
 }

@@ -8,8 +8,8 @@ use Rattle.resolve_colour.proofs.pixels.append_colours.Given as goal
 
 abbrev pub invariant-loop-chunk : goal.invariant-loop-chunk
 invariant-loop-chunk g l =
-    goal.iterator-loop-chunk.can_next l.chunk-iterator
-    × goal.iterator-loop-chunk.is_finite l.chunk-iterator
+    (goal.iterator-loop-chunk g).can_next l.chunk-iterator
+    × (goal.iterator-loop-chunk g).is_finite l.chunk-iterator
     × (chunks_size l.chunk-iterator ≡ 1024)
     × (length l.colours ≡ 3072)
     × (3 * length (chunks_rest l.chunk-iterator) ≤ l.out.spare)
