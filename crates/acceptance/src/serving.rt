@@ -240,7 +240,14 @@ fn counts(
 #[test]
 fn a_count_pins_and_a_refused_edit_does_not(rt: HostRuntime) -> Result<(), Fail> {
     let script = b"edit 0 0 0 9 9 9 all 32\ncount all show\n";
-    counts(&rt, rt.alloc(), script, b"REFUSED 4\nCOUNT 0 1\n", &[0, 0], b"PU")
+    counts(
+        &rt,
+        rt.alloc(),
+        script,
+        b"REFUSED 4\nCOUNT 0 1\n",
+        &[0, 0],
+        b"PU",
+    )
 }
 
 #[test]

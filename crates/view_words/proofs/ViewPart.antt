@@ -112,6 +112,7 @@ badword_in-draw ws long first =
     mapped : (b : Bool) (n : ℕ) → cond b None (Some (4 + n)) ≡ option_map (λ at. 4 + at) (cond b None (Some n))
     mapped true n = refl
     mapped false n = refl
+
     counted : (n size : ℕ) → 4 ≤ size → cond (4 + n == size && size == 26) None (Some (4 + n)) ≡ option_map (λ at. 4 + at) (cond (n == size - 4 && size - 4 == 22) None (Some n))
     counted n size long =
         let tests : (4 + n == size && size == 26) ≡ (n == size - 4 && size - 4 == 22) = grind (arith, nat_tests) in
@@ -200,6 +201,7 @@ draw_of-each ws = (refused (badword (Draw ∷ []) ws) (fitting_view (view_words 
     refused : (o : Option ℕ) (view : Result View TextFault) → refused_at view ≡ None → (at : ℕ) → option_map_or (λ at. Err (Line at)) o view ≡ Err (Line at) → o ≡ Some at
     refused None view none at is = let line = ap refused_at is in absurd (cc (line, none))
     refused (Some found) view none at is = ap refused_at is
+
     line : (o : Option ℕ) (view asked : Result View TextFault) → option_map_or (λ at. Err (Line at)) o view ≡ asked → refused_at asked ≡ None → (o ≡ None) × (asked ≡ view)
     line None view asked is none = (refl, sym is)
     line (Some at) view asked is none = let line = ap refused_at is in absurd (cc (line, none))

@@ -134,12 +134,16 @@ pub(crate) fn view_in(words: &[String]) -> Result<ViewSpec, TextFault>
         return Err(TextFault::Line { at });
     }
     if words.len() < VIEW {
-        return Err(TextFault::Line { at: words.len() as u32 });
+        return Err(TextFault::Line {
+            at: words.len() as u32,
+        });
     }
     match read_view_from(WordsOf::Separate(&words[VIEW..])) {
         Ok(view) => Ok(view),
         Err(fault) => match fault {
-            TextFault::Line { at } => Err(TextFault::Line { at: VIEW as u32 + at }),
+            TextFault::Line { at } => Err(TextFault::Line {
+                at: VIEW as u32 + at,
+            }),
             TextFault::Limit(limit) => Err(TextFault::Limit(limit)),
         },
     }
