@@ -6,3 +6,7 @@ use Rattle.view_commands.proofs.running.run.Goals as goal
 
 pub returns-in-Some : goal.returns-in-Some
 returns-in-Some g c = runs-row _ _ _ (texts c.args.words.now) c.run_row.result c.in-Some.row (sym c.row_of.ensures ∙ c.in-Some.is) c.run_row.ensures
+
+pub returns-in-None : goal.returns-in-None
+returns-in-None g c =
+    runs-none _ _ _ (texts c.args.words.now) c.only.result (sym c.row_of.ensures ∙ c.in-None.is) (record { status = c.only.ensures.status; untouched = same_said (g.D.Desk.says c.args.desk.now); told = c.only.ensures.told })
