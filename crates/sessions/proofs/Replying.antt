@@ -6,7 +6,7 @@ use Rattle.std.proofs.Math.Seq.{take-append-add}
 use Rattle.view_ends.specs.Ends.{Gains, GainsPart}
 use Rattle.view_meaning.specs.Classes as meaning
 use Rattle.view_meaning.specs.Survey.{format_of}
-use Rattle.view_meaning.specs.Classes.{changed, classes, saved}
+use Rattle.view_meaning.specs.Classes.{changed, classes, passing, saved}
 use Rattle.view_meaning.specs.Picture.{picture}
 use Rattle.view_lines.specs.declared.command.Command.TheVariants.{View, Edit, Count, Save}
 use Rattle.version_store.specs.declared.history.Entry.{Entry}
