@@ -86,8 +86,8 @@ fn rgb_from(rec: &[u8], at: usize) -> Rgb
     }
 }
 
-/// Where a record of a format has its red, green and blue, if it has them.
-fn rgb_place(format: u8) -> Option<usize>
+/// Where a record of a format has its red, green and blue, three numbers of 16 bits, if it has them.
+pub fn rgb_place(format: u8) -> Option<usize>
     requires { format ≤ 10 }
     ensures place { result ≡ rgb_place format }
     ensures within { IfSome result (λ at. at + 6 ≤ least_length format) }

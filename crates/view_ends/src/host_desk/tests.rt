@@ -234,23 +234,57 @@ fn written_stays(
     holds(rt, host, name, b"bytes")
 }
 
+/// No other name of a file destroys it while it is read, once it was read, or while it is written.
+fn destroys_nothing(
+    rt: &impl Abort,
+    host: HostRuntime,
+    name: &str,
+    others: &[&str],
+) -> Result<(), Fail> {
+    read_stays(rt, host, name, others)?;
+    for other in others {
+        shut_stays(rt, host, name, other)?;
+    }
+    written_stays(rt, host, name, others)
+}
+
+/// The same with a symbolic link of this name among the other names.
+fn with_link(
+    rt: &impl Abort,
+    host: HostRuntime,
+    name: &str,
+    hard: &str,
+    soft: &str,
+) -> Result<(), Fail> {
+    let spelled = scratch(host, "./", "own")?;
+    symlink(&host, name, soft)?;
+    destroys_nothing(rt, host, name, &[spelled.as_str(), soft, hard])?;
+    fs::remove_file(&host, soft)?;
+    Ok(())
+}
+
+/// The same with a hard link of this name too.
+fn with_links(rt: &impl Abort, host: HostRuntime, name: &str, hard: &str) -> Result<(), Fail> {
+    let soft = scratch(host, "", "soft")?;
+    fs::hard_link(&host, name, hard)?;
+    with_link(rt, host, name, hard, soft.as_str())?;
+    fs::remove_file(&host, hard)?;
+    Ok(())
+}
+
+/// The same of a file of this name.
+fn with_file(rt: &impl Abort, host: HostRuntime, name: &str) -> Result<(), Fail> {
+    let hard = scratch(host, "", "hard")?;
+    fs::write(&host, name, "bytes")?;
+    with_links(rt, host, name, hard.as_str())?;
+    fs::remove_file(&host, name)?;
+    Ok(())
+}
+
 #[test]
 fn no_name_of_an_opened_file_destroys_it(rt: HostRuntime) -> Result<(), Fail> {
     let name = scratch(rt, "", "own")?;
-    let spelled = scratch(rt, "./", "own")?;
-    let soft = scratch(rt, "", "soft")?;
-    let hard = scratch(rt, "", "hard")?;
-    fs::write(&rt, name.as_str(), "bytes")?;
-    symlink(&rt, name.as_str(), soft.as_str())?;
-    fs::hard_link(&rt, name.as_str(), hard.as_str())?;
-    let others = [spelled.as_str(), soft.as_str(), hard.as_str()];
-    read_stays(&rt, rt, name.as_str(), &others)?;
-    shut_stays(&rt, rt, name.as_str(), spelled.as_str())?;
-    written_stays(&rt, rt, name.as_str(), &others)?;
-    for path in [name.as_str(), soft.as_str(), hard.as_str()] {
-        fs::remove_file(&rt, path)?;
-    }
-    Ok(())
+    with_file(&rt, rt, name.as_str())
 }
 
 /// An opened output that is dropped, since a later opening was refused.

@@ -1,0 +1,4 @@
+pub mod Pieces
+pub mod Drawing
+pub mod Room
+pub mod Laid

@@ -1,0 +1,10 @@
+//! A survey of any size that is made of one number, the same on every machine.
+#![tactic(auto)]
+
+mod draws;
+mod making;
+mod record;
+#[cfg(test)]
+mod tests;
+
+pub use making::make;
