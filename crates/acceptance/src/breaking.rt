@@ -199,3 +199,22 @@ fn neither_is_kept(rt: &impl Abort, alloc: Global) -> Result<(), Fail> {
 fn the_output_counts_where_neither_file_is_kept(rt: HostRuntime) -> Result<(), Fail> {
     neither_is_kept(&rt, rt.alloc())
 }
+
+/// Puts the survey of one point and a count on a desk, whose reading fails after the count's line.
+fn prepare_count(alloc: Global, desk: &mut MemDesk) -> Result<(), Fail> {
+    let survey = plain(alloc, &ONE)?;
+    let files: [File; 2] = [("a.las", survey.as_slice()), ("i", b"count all show\n")];
+    fill(alloc, desk, &files)?;
+    Ok(desk.fail("i", DeskCall::Take, 15)?)
+}
+
+#[test]
+fn a_count_is_answered_before_a_read_that_fails(rt: HostRuntime) -> Result<(), Fail> {
+    let mut desk = MemDesk::empty(rt.alloc());
+    prepare_count(rt.alloc(), &mut desk)?;
+    let ended = command(rt.alloc(), &mut desk, SERVE)?;
+    holds(&rt, &desk, &[("o", b"COUNT 0 1\n"), ("j", b"")], "a count");
+    command_ended(&rt, &ended, Status::ReadFault { at: 4 }, Reason::Finished);
+    session_ended(&rt, &ended, Reason::ReadFault, 15, &[0]);
+    Ok(())
+}

@@ -79,12 +79,18 @@ fn what_is_out_of_view_does_not_show(rt: HostRuntime) -> Result<(), Fail> {
         (10, 10, 5, 2),
         (100000, 100000, 5, 2),
     ];
+    let behind_the_middle: &[Record] = &[(-1, 0, 2, 2)];
+    let in_perspective =
+        "draw a.las a.ppm 1 persp 2 1 0 0 0 1 0 0 0 1 0 0 0 1 1 1 1 10 class all show";
+    let left = b"P6\n2 1\n255\n\xC6\x86\xFA\0\0\0".as_slice();
     let two_pixels = "draw a.las a.ppm 1 ortho 2 1 0 0 0 1 0 0 0 1 0 0 0 1 1 1 0 10 class all show";
     let black = b"P6\n2 1\n255\n\0\0\0\0\0\0".as_slice();
     for (records, line, picture) in [
         (deep, from_below, CLASS_6),
         (beside, ONE_PIXEL, CLASS_6),
         ([].as_slice(), two_pixels, black),
+        // The column is -1 / 2 rounded down, one pixel left of the middle.
+        (behind_the_middle, in_perspective, left),
     ] {
         draws_records(&rt, rt.alloc(), records, line, picture)?;
     }

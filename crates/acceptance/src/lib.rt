@@ -32,3 +32,5 @@ mod same;
 mod serving;
 #[cfg(test)]
 mod telling;
+#[cfg(test)]
+mod views;

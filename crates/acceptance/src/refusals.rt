@@ -67,11 +67,16 @@ fn refuses_words(rt: &impl Abort, alloc: Global, survey: &[u8]) -> Result<(), Fa
     Ok(())
 }
 
-/// Refusals of cameras out of range, and of words that fit and ask for what is not built.
+/// Refusals of cameras out of range before those of colours that a format has not, and of words
+/// that fit and ask for what is not built.
 fn refuses_views(rt: &impl Abort, alloc: Global, survey: &[u8]) -> Result<(), Fail> {
     let wide = CameraLimit {
         place: 1,
         value: 4097,
+    };
+    let focal = CameraLimit {
+        place: 15,
+        value: 1048577,
     };
     let many = CameraLimit {
         place: 19,
@@ -81,18 +86,18 @@ fn refuses_views(rt: &impl Abort, alloc: Global, survey: &[u8]) -> Result<(), Fa
         ("trial 5 100 2 t", Status::NotYet, 12),
         ("serve a.las 1 j i o k p", Status::NotYet, 12),
         (
-            "draw a.las a.ppm 1 persp 1 1 0 0 0 1 0 0 0 1 0 0 0 1 1 1 1 10 class all show",
-            Status::NotYet,
-            12,
+            "draw a.las a.ppm 1 ortho 1 1 0 0 0 1 0 0 0 1 0 0 0 1 1 1 0 10 rgb16 all show",
+            Status::NoColour { format: 0 },
+            4,
         ),
         (
-            "draw a.las a.ppm 1 ortho 4097 1 0 0 0 1 0 0 0 1 0 0 0 1 1 1 0 10 class 0-255 show",
-            Status::NotYet,
-            12,
-        ),
-        (
-            "draw a.las a.ppm 1 ortho 4097 1 0 0 0 1 0 0 0 1 0 0 0 1 1 1 0 10 class all show",
+            "draw b.las a.ppm 1 ortho 4097 1 0 0 0 1 0 0 0 1 0 0 0 1 1 1 0 10 rgb16 all show",
             Status::Limit(wide),
+            3,
+        ),
+        (
+            "draw a.las a.ppm 1 persp 1 1 0 0 0 1 0 0 0 1 0 0 0 1 1048577 1 1 10 class all show",
+            Status::Limit(focal),
             3,
         ),
         (
@@ -126,7 +131,7 @@ fn refuses_surveys(rt: &impl Abort, alloc: Global, survey: &[u8]) -> Result<(), 
             8,
         ),
         (
-            "draw short.las a.ppm 1 ortho 1 1 0 0 0 1 0 0 0 1 0 0 0 1 1 1 0 10 class all show",
+            "draw short.las a.ppm 1 ortho 1 1 0 0 0 1 0 0 0 1 0 0 0 1 1 1 0 10 rgb8 all show",
             Status::Survey(short),
             8,
         ),
@@ -170,6 +175,7 @@ fn each_status_has_its_text(rt: HostRuntime) -> Result<(), Fail> {
             Status::Limit(limit),
             "camera number 3 is out of range: -2147483649",
         ),
+        (Status::NoColour { format: 9 }, "format 9 has no colour"),
         (Status::OpenFault { at: 1 }, "cannot open word 1"),
         (Status::ReadFault { at: 1 }, "cannot read word 1"),
         (Status::TooLong, "survey is too long"),

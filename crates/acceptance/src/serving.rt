@@ -196,15 +196,20 @@ fn replies_and_journals_worked_by_hand(rt: HostRuntime) -> Result<(), Fail> {
             b"REFUSED 2\n",
             none,
         ),
-        // A view that is not built.
+        // Both that and a colouring that format 0 has not; and the colouring alone.
         (
-            b"view ortho 1 1 0 0 0 1 0 0 0 1 0 0 0 1 1 1 0 10 class all hide\n",
-            b"REFUSED 1\n",
+            b"view ortho 4097 1 0 0 0 1 0 0 0 1 0 0 0 1 1 1 0 10 rgb8 all show\n",
+            b"REFUSED 2\n",
+            none,
+        ),
+        (
+            b"view ortho 1 1 0 0 0 1 0 0 0 1 0 0 0 1 1 1 0 10 rgb16 all show\n",
+            b"REFUSED 3\n",
             none,
         ),
         // Lines that are none.
         (
-            b"save now\nSAVE\ncount all show\nedit 0 0 0 9 9 9 all\n",
+            b"save now\nSAVE\ncount all\nedit 0 0 0 9 9 9 all\n",
             b"REFUSED 1\nREFUSED 1\nREFUSED 1\nREFUSED 1\n",
             none,
         ),
@@ -212,6 +217,48 @@ fn replies_and_journals_worked_by_hand(rt: HostRuntime) -> Result<(), Fail> {
         replies(&rt, rt.alloc(), &ONE, script, wanted, journal)?;
     }
     Ok(())
+}
+
+/// Serves a script over the survey of one point, which has to give these replies, marks of 0 and
+/// these entries, and an empty journal.
+fn counts(
+    rt: &impl Abort,
+    alloc: Global,
+    script: &[u8],
+    replies: &[u8],
+    marks: &[u64],
+    entries: &[u8],
+) -> Result<(), Fail> {
+    let survey = plain(alloc, &ONE)?;
+    let ended = serves(rt, alloc, survey.as_slice(), script, replies, b"")?;
+    command_ended(rt, &ended, Status::Done, Reason::Finished);
+    session_ended(rt, &ended, Reason::Finished, script.len() as u64, marks);
+    entries_are(rt, &ended.told.history, entries);
+    Ok(())
+}
+
+#[test]
+fn a_count_pins_and_a_refused_edit_does_not(rt: HostRuntime) -> Result<(), Fail> {
+    let script = b"edit 0 0 0 9 9 9 all 32\ncount all show\n";
+    counts(
+        &rt,
+        rt.alloc(),
+        script,
+        b"REFUSED 4\nCOUNT 0 1\n",
+        &[0, 0],
+        b"PU",
+    )
+}
+
+#[test]
+fn a_count_after_a_line_that_is_too_long_and_lines_without_words(
+    rt: HostRuntime,
+) -> Result<(), Fail> {
+    let long = [b'x'; 4097].as_slice();
+    let rest = b"\ncount all show\r\n\n \t\ncount 6 show".as_slice();
+    let script = joined(rt.alloc(), &[long, rest])?;
+    let replies = b"REFUSED 1\nCOUNT 0 1\nCOUNT 0 0\n";
+    counts(&rt, rt.alloc(), &script, replies, &[0, 0, 0], b"PUPU")
 }
 
 /// Serves a line of so many blanks, which has to give these replies.
@@ -304,10 +351,11 @@ fn parts_reclassed(alloc: Global, heads: &[u8]) -> Result<Vec<u8>, Fail> {
 #[test]
 fn a_file_with_all_parts_is_saved_with_other_classes_alone(rt: HostRuntime) -> Result<(), Fail> {
     let script =
-        b"edit 0 0 0 100 100 95 1 2\nedit 0 0 0 100 100 200 1,2 6\nedit 50 50 80 50 50 80 6 9\nsave\n";
+        b"edit 0 0 0 100 100 95 1 2\nedit 0 0 0 100 100 200 1,2 6\nedit 50 50 80 50 50 80 6 9\n\
+          count 6 show\ncount 9-18 hide\nsave\n";
     let journal =
         b"edit 0 0 0 100 100 95 1 2\nedit 0 0 0 100 100 200 1-2 6\nedit 50 50 80 50 50 80 6 9\n";
-    let heads = b"EDITED 1 1\nEDITED 2 3\nEDITED 3 1\nFILE 3 624\n";
+    let heads = b"EDITED 1 1\nEDITED 2 3\nEDITED 3 1\nCOUNT 3 2\nCOUNT 3 1\nFILE 3 624\n";
     let wanted = parts_reclassed(rt.alloc(), heads)?;
     let survey = parts(rt.alloc())?;
     let ended = serves(&rt, rt.alloc(), survey.as_slice(), script, &wanted, journal)?;

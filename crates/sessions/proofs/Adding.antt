@@ -5,10 +5,10 @@ use Rattle.std.proofs.lemmas.List.{append-nil, take_all, take_at}
 use Rattle.view_meaning.specs.Survey.{format_of}
 use Rattle.view_meaning.specs.Classes as meaning
 use Rattle.view_meaning.specs.Picture.{View as PictureView, picture}
-use Rattle.view_meaning.specs.Classes.{changed, saved}
+use Rattle.view_meaning.specs.Classes.{changed, passing, saved}
 use Rattle.class_pages.specs.Fitting.{EachFits}
 use Rattle.view_lines.specs.Command.{refusal_code}
-use Rattle.view_lines.specs.declared.command.Command.TheVariants.{View, Edit, Save}
+use Rattle.view_lines.specs.declared.command.Command.TheVariants.{View, Edit, Count, Save}
 use Rattle.view_lines.specs.declared.refusal.Refusal.{Refusal}
 use Rattle.version_store.specs.declared.history.What.TheVariants.{Publish, Pin, Unpin}
 use Rattle.sessions.specs.declared.talk.Talk.{Talk}
@@ -66,6 +66,14 @@ adds_view b old new view sound history marks newest classes = record {
   sound = sound_calm b old new sound (journal-calm old new (Ok (View view)) refl history) newest classes;
 }
 
+pub adds_count : (b : List ℕ) (old new : Talk) (filter : meaning.Filter) → IsSound b old → new.history.items ≡ old.history.items ++ by_one Pin ∷ by_one (Unpin old.newest) ∷ []
+    → new.marks.items ≡ old.marks.items ++ old.newest ∷ [] → new.newest ≡ old.newest → new.classes ≡ old.classes → Adds b old new (Ok (Count filter))
+adds_count b old new filter sound history marks newest classes = record {
+  history = history;
+  marks = marks;
+  sound = sound_calm b old new sound (journal-calm old new (Ok (Count filter)) refl history) newest classes;
+}
+
 pub adds_save : (b : List ℕ) (old new : Talk) → IsSound b old → new.history.items ≡ old.history.items ++ by_one Pin ∷ by_one (Unpin old.newest) ∷ []
     → new.marks.items ≡ old.marks.items ++ old.newest ∷ [] → new.newest ≡ old.newest → new.classes ≡ old.classes → Adds b old new (Ok Save)
 adds_save b old new sound history marks newest classes = record {
@@ -114,6 +122,13 @@ unfolding reply
 last_reply-view b old new view added newest =
     ap (λ (v : ℕ). reply b (journal new.history.items) (Ok (View view)) v) (mark_added b old new (Ok (View view)) added)
     ∙ ap (λ (cs : List ℕ). with_length (codes "PICTURE") old.newest (picture b cs view)) (version-sound b new old.newest added.sound (sym newest))
+
+pub last_reply-count : (b : List ℕ) (old new : Talk) (filter : meaning.Filter) → Adds b old new (Ok (Count filter)) → new.newest ≡ old.newest
+    → last_reply b new (Ok (Count filter)) ≡ head (codes "COUNT") old.newest (passing b new.classes filter)
+unfolding reply
+last_reply-count b old new filter added newest =
+    ap (λ (v : ℕ). reply b (journal new.history.items) (Ok (Count filter)) v) (mark_added b old new (Ok (Count filter)) added)
+    ∙ ap (λ (cs : List ℕ). head (codes "COUNT") old.newest (passing b cs filter)) (version-sound b new old.newest added.sound (sym newest))
 
 pub last_reply-save : (b : List ℕ) (old new : Talk) → Adds b old new (Ok Save) → new.newest ≡ old.newest
     → last_reply b new (Ok Save) ≡ with_length (codes "FILE") old.newest (saved b new.classes)

@@ -10,20 +10,20 @@ use Rattle.view_ends.proofs.Pieces.{gains_more}
 use Rattle.view_meaning.specs.Survey.{format_of, points_end, record_count}
 use Rattle.view_meaning.specs.Classes as meaning
 use Rattle.view_meaning.specs.Picture.{View as PictureView, picture, ppm_header}
-use Rattle.view_meaning.specs.Classes.{changed, saved}
+use Rattle.view_meaning.specs.Classes.{changed, passing, saved}
 use Rattle.class_pages.specs.Fitting.{EachFits}
 use Rattle.class_pages.proofs.Fitting.{length-classes}
 use Rattle.las_write.proofs.Fronts.{part_of_first, part_of_second}
 use Rattle.las_write.proofs.Saved.{saved-length}
 use Rattle.view_lines.specs.Command.{command_of}
-use Rattle.view_lines.specs.declared.command.Command.TheVariants.{View, Edit, Save}
+use Rattle.view_lines.specs.declared.command.Command.TheVariants.{View, Edit, Count, Save}
 use Rattle.version_store.specs.declared.history.What.TheVariants.{Publish, Pin, Unpin}
 use Rattle.sessions.specs.declared.talk.Talk.{Talk}
 use Rattle.sessions.specs.Lines.{Item, LINE, without_cr, items_of}
 use Rattle.version_store.specs.Histories.{journal}
 use Rattle.sessions.specs.Replies.{head}
 use Rattle.sessions.specs.Talk.{IsSound, SameTalk, Adds, Answered, AnsweredAll, by_one, last_reply}
-use Rattle.sessions.proofs.Adding.{sound_stays, adds_stays, adds_view, adds_save, adds_edit, last_reply-view, last_reply-save, last_reply-edit}
+use Rattle.sessions.proofs.Adding.{sound_stays, adds_stays, adds_view, adds_count, adds_save, adds_edit, last_reply-view, last_reply-count, last_reply-save, last_reply-edit}
 
 -- an item was answered as its reply was given
 pub answered_by : (b : List ℕ) (old new : Talk) (item : Item) (before after : Option (List ℕ)) (text : List ℕ) (result : Result (Unit {0}) EndFault)
@@ -61,6 +61,17 @@ answered_view b old mid new view size start text before after result sound stays
     let reply : last_reply b new (Ok (View view)) ≡ head (codes "PICTURE") mid.newest (length (picture b mid.classes view)) ++ picture b mid.classes view =
     last_reply-view b mid new view added newest ∙ ap (λ (cs : List ℕ). head (codes "PICTURE") mid.newest (length (picture b cs view)) ++ picture b cs view) classes in
     answered_by b old new (Ok (View view)) before after text result (adds_stays b old mid new (Ok (View view)) stays added) (shown ∙ sym reply) given part
+
+pub answered_count : (b at : List ℕ) (old mid new : Talk) (filter : meaning.Filter) (n : ℕ) (text : List ℕ) (before after : Option (List ℕ)) (result : Result (Unit {0}) EndFault)
+    → at ≡ b → IsSound b old → SameTalk old mid → new.history.items ≡ mid.history.items ++ by_one Pin ∷ by_one (Unpin mid.newest) ∷ []
+    → new.marks.items ≡ mid.marks.items ++ mid.newest ∷ [] → new.newest ≡ mid.newest → new.classes ≡ mid.classes
+    → n ≡ passing at mid.classes filter → text ≡ head (codes "COUNT") mid.newest n
+    → OnOk result (Gains before text after) → OnErr result (GainsPart before text after) → Answered b old new (Ok (Count filter)) before after (is_ok result)
+answered_count b at old mid new filter n text before after result same sound stays history marks newest classes told is given part =
+    let added = adds_count b mid new filter (sound_stays b old mid sound stays) history marks newest classes in
+    let count : n ≡ passing b new.classes filter = told ∙ ap (λ (l : List ℕ). passing l mid.classes filter) same ∙ ap (λ (cs : List ℕ). passing b cs filter) (sym classes) in
+    answered_by b old new (Ok (Count filter)) before after text result (adds_stays b old mid new (Ok (Count filter)) stays added)
+    (is ∙ ap (λ (n : ℕ). head (codes "COUNT") mid.newest n) count ∙ sym (last_reply-count b mid new filter added newest)) given part
 
 -- what an edit makes of sound classes
 pub edited_sound : (b at : List ℕ) (mid : Talk) (edit : meaning.Edit) (made : List ℕ) → at ≡ b → IsSound b mid

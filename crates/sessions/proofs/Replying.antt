@@ -6,9 +6,9 @@ use Rattle.std.proofs.Math.Seq.{take-append-add}
 use Rattle.view_ends.specs.Ends.{Gains, GainsPart}
 use Rattle.view_meaning.specs.Classes as meaning
 use Rattle.view_meaning.specs.Survey.{format_of}
-use Rattle.view_meaning.specs.Classes.{changed, classes, saved}
+use Rattle.view_meaning.specs.Classes.{changed, classes, passing, saved}
 use Rattle.view_meaning.specs.Picture.{picture}
-use Rattle.view_lines.specs.declared.command.Command.TheVariants.{View, Edit, Save}
+use Rattle.view_lines.specs.declared.command.Command.TheVariants.{View, Edit, Count, Save}
 use Rattle.version_store.specs.declared.history.Entry.{Entry}
 use Rattle.sessions.specs.declared.talk.Talk.{Talk}
 use Rattle.sessions.specs.Lines.{Item}
@@ -33,6 +33,7 @@ reply-append b edits more (Ok (View view)) v old = ap (λ (cs : List ℕ). with_
 reply-append b edits more (Ok (Edit edit)) v old =
     ap (λ (cs : List ℕ). head (codes "EDITED") v (changed cs (version b (edits ++ more) v))) (version-append b edits more (v - 1) (omega arith))
     ∙ ap (λ (cs : List ℕ). head (codes "EDITED") v (changed (version b edits (v - 1)) cs)) (version-append b edits more v old)
+reply-append b edits more (Ok (Count filter)) v old = ap (λ (cs : List ℕ). head (codes "COUNT") v (passing b cs filter)) (version-append b edits more v old)
 reply-append b edits more (Ok Save) v old = ap (λ (cs : List ℕ). with_length (codes "FILE") v (saved b cs)) (version-append b edits more v old)
 reply-append b edits more (Err refusal) v old = refl
 

@@ -5,7 +5,7 @@ use Rattle.std.proofs.lemmas.Bool.{cases_lt}
 use Rattle.std.proofs.lemmas.List.{append-nil, append_assoc, length_push, get_or_append_left, get_or_push, get_or_default}
 use Rattle.std.proofs.lemmas.List.Elements.{All-append, All-nil, All-cons}
 use Rattle.view_meaning.specs.Classes as meaning
-use Rattle.view_lines.specs.declared.command.Command.TheVariants.{View, Edit, Save}
+use Rattle.view_lines.specs.declared.command.Command.TheVariants.{View, Edit, Count, Save}
 use Rattle.version_store.specs.declared.history.What.TheVariants.{Publish, Pin, Unpin}
 use Rattle.version_store.specs.declared.history.Entry.{Entry}
 use Rattle.sessions.specs.Lines.{Item}
@@ -18,6 +18,7 @@ use Rattle.version_store.proofs.HistoryLaws.{entries_by-append, journal-publish,
 abbrev pub published : Item → List meaning.Edit
 published (Ok (View view)) = []
 published (Ok (Edit edit)) = edit ∷ []
+published (Ok (Count filter)) = []
 published (Ok Save) = []
 published (Err refusal) = []
 
@@ -30,18 +31,21 @@ journal-shown h n = ap journal (sym (shown h n)) ∙ journal-unpin (h ++ by_one 
 pub journal_more : (item : Item) (n : ℕ) (h : List Entry) → journal (h ++ entries_of item n) ≡ journal h ++ published item
 journal_more (Ok (View view)) n h = journal-shown h n ∙ sym (append-nil (journal h))
 journal_more (Ok (Edit edit)) n h = journal-publish h 1 edit
+journal_more (Ok (Count filter)) n h = journal-shown h n ∙ sym (append-nil (journal h))
 journal_more (Ok Save) n h = journal-shown h n ∙ sym (append-nil (journal h))
 journal_more (Err refusal) n h = ap journal (append-nil h) ∙ sym (append-nil (journal h))
 
 legal_more : (item : Item) (n : ℕ) (h : List Entry) → n ≡ length (journal h) → IsGivenBack h → IsLegal h → IsLegal (h ++ entries_of item n)
 legal_more (Ok (View view)) n h is back legal = subst IsLegal (shown h n) (IsLegal-shown 1 n h is back legal)
 legal_more (Ok (Edit edit)) n h is back legal = IsLegal-publish 1 edit h legal
+legal_more (Ok (Count filter)) n h is back legal = subst IsLegal (shown h n) (IsLegal-shown 1 n h is back legal)
 legal_more (Ok Save) n h is back legal = subst IsLegal (shown h n) (IsLegal-shown 1 n h is back legal)
 legal_more (Err refusal) n h is back legal = subst IsLegal (sym (append-nil h)) legal
 
 back_more : (item : Item) (n : ℕ) (h : List Entry) → n ≡ length (journal h) → IsGivenBack h → IsGivenBack (h ++ entries_of item n)
 back_more (Ok (View view)) n h is back = subst IsGivenBack (shown h n) (IsGivenBack-shown 1 n h is back)
 back_more (Ok (Edit edit)) n h is back = IsGivenBack-publish 1 edit h back
+back_more (Ok (Count filter)) n h is back = subst IsGivenBack (shown h n) (IsGivenBack-shown 1 n h is back)
 back_more (Ok Save) n h is back = subst IsGivenBack (shown h n) (IsGivenBack-shown 1 n h is back)
 back_more (Err refusal) n h is back = subst IsGivenBack (sym (append-nil h)) back
 
@@ -58,6 +62,7 @@ mine_shown n = All-cons (λ (entry : Entry). entry.who ≡ 1) (by_one Pin) (by_o
 mine_of : (item : Item) (n : ℕ) → AreMine (entries_of item n)
 mine_of (Ok (View view)) n = mine_shown n
 mine_of (Ok (Edit edit)) n = All-cons (λ (entry : Entry). entry.who ≡ 1) (by_one (Publish edit)) [] refl mine_none
+mine_of (Ok (Count filter)) n = mine_shown n
 mine_of (Ok Save) n = mine_shown n
 mine_of (Err refusal) n = mine_none
 
@@ -96,6 +101,11 @@ Makes-append before (Ok (View view) ∷ items) (mark ∷ marks) [] others more l
 Makes-append before (Ok (View view) ∷ items) (mark ∷ marks) (at ∷ []) others more later front back = absurd front
 Makes-append before (Ok (View view) ∷ items) (mark ∷ marks) (at ∷ after ∷ entries) others more later front back =
     (front.0, front.1, front.2, Makes-append mark items marks entries others more later front.3 back)
+Makes-append before (Ok (Count filter) ∷ items) [] entries others more later front back = absurd front
+Makes-append before (Ok (Count filter) ∷ items) (mark ∷ marks) [] others more later front back = absurd front
+Makes-append before (Ok (Count filter) ∷ items) (mark ∷ marks) (at ∷ []) others more later front back = absurd front
+Makes-append before (Ok (Count filter) ∷ items) (mark ∷ marks) (at ∷ after ∷ entries) others more later front back =
+    (front.0, front.1, front.2, Makes-append mark items marks entries others more later front.3 back)
 Makes-append before (Ok Save ∷ items) [] entries others more later front back = absurd front
 Makes-append before (Ok Save ∷ items) (mark ∷ marks) [] others more later front back = absurd front
 Makes-append before (Ok Save ∷ items) (mark ∷ marks) (at ∷ []) others more later front back = absurd front
@@ -115,6 +125,10 @@ Makes-length before (Ok (View view) ∷ items) [] entries made = absurd made
 Makes-length before (Ok (View view) ∷ items) (mark ∷ marks) [] made = absurd made
 Makes-length before (Ok (View view) ∷ items) (mark ∷ marks) (at ∷ []) made = absurd made
 Makes-length before (Ok (View view) ∷ items) (mark ∷ marks) (at ∷ after ∷ entries) made = ap (λ (n : ℕ). suc n) (Makes-length mark items marks entries made.3)
+Makes-length before (Ok (Count filter) ∷ items) [] entries made = absurd made
+Makes-length before (Ok (Count filter) ∷ items) (mark ∷ marks) [] made = absurd made
+Makes-length before (Ok (Count filter) ∷ items) (mark ∷ marks) (at ∷ []) made = absurd made
+Makes-length before (Ok (Count filter) ∷ items) (mark ∷ marks) (at ∷ after ∷ entries) made = ap (λ (n : ℕ). suc n) (Makes-length mark items marks entries made.3)
 Makes-length before (Ok Save ∷ items) [] entries made = absurd made
 Makes-length before (Ok Save ∷ items) (mark ∷ marks) [] made = absurd made
 Makes-length before (Ok Save ∷ items) (mark ∷ marks) (at ∷ []) made = absurd made
@@ -127,6 +141,7 @@ Makes_one : (item : Item) (n before : ℕ) → Makes before (item ∷ []) (mark_
 unfolding Makes numbered
 Makes_one (Ok (View view)) n before = (refl, omega arith, refl, tt)
 Makes_one (Ok (Edit edit)) n before = (refl, refl, tt)
+Makes_one (Ok (Count filter)) n before = (refl, omega arith, refl, tt)
 Makes_one (Ok Save) n before = (refl, omega arith, refl, tt)
 Makes_one (Err refusal) n before = (refl, tt)
 
@@ -174,12 +189,14 @@ last_within (mark ∷ marks) n within = within (suc (length marks) - 1) (omega a
 mark_after : (item : Item) (marks : List ℕ) (n : ℕ) → AreWithin marks n → AreRising marks → AreWithin marks (mark_of item n (last_mark marks))
 mark_after (Ok (View view)) marks n within rising = within
 mark_after (Ok (Edit edit)) marks n within rising = λ k inside. let low = within k inside in omega arith
+mark_after (Ok (Count filter)) marks n within rising = within
 mark_after (Ok Save) marks n within rising = within
 mark_after (Err refusal) marks n within rising = λ k inside. rising k (length marks - 1) (omega arith) (omega arith)
 
 mark_within : (item : Item) (marks : List ℕ) (n : ℕ) → AreWithin marks n → mark_of item n (last_mark marks) ≤ n + length (published item)
 mark_within (Ok (View view)) marks n within = omega arith
 mark_within (Ok (Edit edit)) marks n within = omega arith
+mark_within (Ok (Count filter)) marks n within = omega arith
 mark_within (Ok Save) marks n within = omega arith
 mark_within (Err refusal) marks n within = let low = last_within marks n within in omega arith
 

@@ -1,10 +1,10 @@
 -- What a session answers.
 use Rattle.std.specs.Prelude.{ℕ, ◌-◌, List, ◌++◌, length, take, flat_map, zip, codes, decimal, Ok, Err}
 use Rattle.view_meaning.specs.Classes as meaning
-use Rattle.view_meaning.specs.Classes.{changed, classes, saved}
+use Rattle.view_meaning.specs.Classes.{changed, classes, passing, saved}
 use Rattle.view_meaning.specs.Picture.{picture}
 use Rattle.view_lines.specs.Command.{refusal_code}
-use Rattle.view_lines.specs.declared.command.Command.TheVariants.{View, Edit, Save}
+use Rattle.view_lines.specs.declared.command.Command.TheVariants.{View, Edit, Count, Save}
 use Rattle.sessions.specs.Lines.{Item}
 
 -- the classes of version v, of a survey whose published edits are these
@@ -19,11 +19,12 @@ head word v n = word ++ codes " " ++ decimal v ++ codes " " ++ decimal n ++ code
 abbrev pub with_length : List ℕ → ℕ → List ℕ → List ℕ
 with_length word v bytes = head word v (length bytes) ++ bytes
 
--- the reply to an item under version v: to a view the picture, to an edit how many classes it changed, to
--- a save the whole file, each of version v, and to a refused line the code
+-- the reply to an item under version v: to a view the picture, to an edit how many classes it changed, to a
+-- count how many records pass, to a save the whole file, each of version v, and to a refused line the code
 unfoldable pub reply : List ℕ → List meaning.Edit → Item → ℕ → List ℕ
 reply b edits (Ok (View view)) v = with_length (codes "PICTURE") v (picture b (version b edits v) view)
 reply b edits (Ok (Edit edit)) v = head (codes "EDITED") v (changed (version b edits (v - 1)) (version b edits v))
+reply b edits (Ok (Count filter)) v = head (codes "COUNT") v (passing b (version b edits v) filter)
 reply b edits (Ok Save) v = with_length (codes "FILE") v (saved b (version b edits v))
 reply b edits (Err refusal) v = codes "REFUSED " ++ decimal (refusal_code refusal) ++ codes "\n"
 

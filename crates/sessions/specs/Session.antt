@@ -37,8 +37,8 @@ pub record Processed (format : ℕ) (input : List ℕ) (taken : ℕ) (reason : r
   pub items_are : MayProcess format input (take (min taken LIMIT) input) items reason
 
 -- the entries that items make, each with the newest version once it was made, and the marks of the items: an
--- edit publishes, and its mark is the version that it makes; a view or a save pins the version that is its
--- mark and gives it back; a refused item makes no entry, and its mark is the one before it
+-- edit publishes, and its mark is the version that it makes; a view, a count or a save pins the version that
+-- is its mark and gives it back; a refused item makes no entry, and its mark is the one before it
 unfoldable pub Makes : ℕ → List Item → List ℕ → List (Entry × ℕ) → Type 0
 Makes before [] [] [] = Unit {0}
 Makes before (Err _ ∷ items) (mark ∷ marks) entries = (mark ≡ before) × Makes mark items marks entries

@@ -3,7 +3,7 @@ use Rattle.std.specs.Prelude.{◌≡◌, ℕ, ◌+◌, ◌-◌, ◌≤◌, ◌<�
 use Rattle.view_meaning.specs.Classes as meaning
 use Rattle.view_meaning.specs.Survey.{format_of}
 use Rattle.class_pages.specs.Fitting.{EachFits}
-use Rattle.view_lines.specs.declared.command.Command.TheVariants.{View, Edit, Save}
+use Rattle.view_lines.specs.declared.command.Command.TheVariants.{View, Edit, Count, Save}
 use Rattle.view_ends.specs.Ends.{Gains, GainsPart}
 use Rattle.version_store.specs.declared.history.What.{What}
 use Rattle.version_store.specs.declared.history.What.TheVariants.{Publish, Pin, Unpin}
@@ -40,6 +40,7 @@ by_one what = record { who = 1; what = what }
 abbrev pub entries_of : Item → ℕ → List Entry
 entries_of (Ok (View view)) newest = by_one Pin ∷ by_one (Unpin newest) ∷ []
 entries_of (Ok (Edit edit)) newest = by_one (Publish edit) ∷ []
+entries_of (Ok (Count filter)) newest = by_one Pin ∷ by_one (Unpin newest) ∷ []
 entries_of (Ok Save) newest = by_one Pin ∷ by_one (Unpin newest) ∷ []
 entries_of (Err refusal) newest = []
 
@@ -51,6 +52,7 @@ last_mark marks = slice_index_or marks (length marks - 1) 0
 abbrev pub mark_of : Item → ℕ → ℕ → ℕ
 mark_of (Ok (View view)) newest last = newest
 mark_of (Ok (Edit edit)) newest last = newest + 1
+mark_of (Ok (Count filter)) newest last = newest
 mark_of (Ok Save) newest last = newest
 mark_of (Err refusal) newest last = last
 

@@ -1,18 +1,20 @@
-ghost use Rattle.std.specs.Prelude.{◌≡◌, ◌≤◌, Ok, Err, is_ok, length};
+ghost use Rattle.std.specs.Prelude.{◌≡◌, ◌≤◌, Ok, Err, is_ok, length, true};
 ghost use Rattle.std.specs.Arc.{arc_value};
-ghost use Rattle.view_meaning.specs.Picture as meaning;
+ghost use Rattle.view_meaning.specs.Picture.{can_colour};
 ghost use Rattle.view_meaning.specs.Survey.{format_of};
 ghost use Rattle.view_meaning.specs.Classes.{top_class};
 ghost use Rattle.view_lines.specs.declared.command.Command.TheVariants as command;
-ghost use Rattle.view_lines.specs.Command.{FitsFormat, IsByClass};
+ghost use Rattle.view_lines.specs.Command.{FitsFormat};
 ghost use Rattle.sessions.specs.Lines.{items_of, without_cr};
 ghost use Rattle.sessions.specs.Talk.{IsSound, Answered, AnsweredAll};
 ghost use Rattle.sessions.specs.Giving.{Gave};
 
+use crate::counting::count_passing;
 use crate::drawing::{Scene, picture};
 use crate::heads::{HEAD, append_head, append_refusal};
 use crate::pending::LINE;
 use crate::talk::Talk;
+use class_bits::Filter;
 use edit_ops::Edit;
 use las_write::write_survey;
 use ppm_out::ppm_length;
@@ -57,8 +59,7 @@ fn answer_command<O: Sink, B: Beside>(
     sink: &mut O,
 ) -> Result<(), EndFault>
     requires workers { (1 ≤ scene.now.workers) × (scene.now.workers ≤ 64) }
-    requires room { FitsFormat (format_of (arc_value scene.now.survey)) command.now }
-    requires by_class { IsByClass command.now }
+    requires fits { FitsFormat (format_of (arc_value scene.now.survey)) command.now }
     requires sound { IsSound (arc_value scene.now.survey) talk.old }
     ensures answered { Answered (arc_value scene.now.survey) talk.old talk.new (Ok command.now) (O.got sink.old) (O.got sink.new) (is_ok result) }
     ensures gave { Gave (O.faults sink.old) (O.faults sink.new) result }
@@ -66,6 +67,7 @@ fn answer_command<O: Sink, B: Beside>(
     match command {
         Command::View(view) => answer_view(alloc, scene, talk, view, beside, sink),
         Command::Edit(edit) => answer_edit(alloc, scene, talk, edit, sink),
+        Command::Count(filter) => answer_count(alloc, scene, talk, filter, sink),
         Command::Save => answer_save(alloc, scene, talk, sink),
     }
 }
@@ -90,7 +92,7 @@ fn answer_view<O: Sink, B: Beside>(
     sink: &mut O,
 ) -> Result<(), EndFault>
     requires workers { (1 ≤ scene.now.workers) × (scene.now.workers ≤ 64) }
-    requires by_class { view.now ≡ meaning.by_class view.now.camera }
+    requires can_colour { can_colour (format_of (arc_value scene.now.survey)) view.now.colouring ≡ true }
     requires sound { IsSound (arc_value scene.now.survey) talk.old }
     ensures answered { Answered (arc_value scene.now.survey) talk.old talk.new (Ok (command.View view.now)) (O.got sink.old) (O.got sink.new) (is_ok result) }
     ensures gave { Gave (O.faults sink.old) (O.faults sink.new) result }
@@ -124,6 +126,27 @@ fn answer_edit<O: Sink>(
     let (classes, changed) = talk.classes.edited(alloc, &scene.survey, edit)?;
     talk.publish(edit, classes);
     append_head(&mut out, b"EDITED", talk.newest, changed);
+    give_all(sink, out.as_slice())
+}
+
+/// Answers a count by how many records of the newest version pass.
+fn answer_count<O: Sink>(
+    alloc: Global,
+    scene: &Scene,
+    talk: &mut Talk,
+    filter: &Filter,
+    sink: &mut O,
+) -> Result<(), EndFault>
+    requires sound { IsSound (arc_value scene.now.survey) talk.old }
+    ensures answered { Answered (arc_value scene.now.survey) talk.old talk.new (Ok (command.Count filter.now)) (O.got sink.old) (O.got sink.new) (is_ok result) }
+    ensures gave { Gave (O.faults sink.old) (O.faults sink.new) result }
+{
+    talk.make_room()?;
+    let mut out = Bytes::new(alloc);
+    out.reserve(HEAD)?;
+    let passing = count_passing(&scene.survey, &talk.classes, filter);
+    append_head(&mut out, b"COUNT", talk.newest, u64::from(passing));
+    talk.show();
     give_all(sink, out.as_slice())
 }
 

@@ -21,8 +21,9 @@ pub type Marks = Listing<Version>;
 /// How a session ended.
 #[derive(Drop)]
 pub struct SessionEnd {
-    /// One mark for each command that was processed: the version that an edit made, or that a view
-    /// or a save shows; for a refused line the mark before it, and 0 where there is none.
+    /// One mark for each command that was processed: the version that an edit made, or that a view,
+    /// a count or a save is answered by; for a refused line the mark before it, and 0 where there
+    /// is none.
     pub marks: Marks,
     /// Why it ended.
     pub reason: Reason,

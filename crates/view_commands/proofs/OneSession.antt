@@ -5,16 +5,16 @@ use Rattle.sessions.specs.declared.end.SessionEnd.{SessionEnd}
 use Rattle.view_ends.specs.Desk.{Said}
 use Rattle.view_ends.specs.Ends.{RoseBy}
 use Rattle.view_meaning.specs.Layout.{IsLaid}
-use Rattle.view_commands.specs.Texts.{IsReadWhole, OnlyTook, NoSurvey}
+use Rattle.view_commands.specs.Texts.{IsReadWhole, OnlyTook, NoSurvey, refuses_none}
 use Rattle.view_commands.specs.Serve.{IsNothing, NotOpened, RunsSession, IsCalm, Goes, ServesOne}
 use Rattle.view_commands.specs.Steps.{OnlyInput, OpensOutputs}
 use Rattle.view_commands.specs.declared.status.Status as status
-use Rattle.view_commands.specs.declared.status.Status.TheVariants.{Done, Words, Limit, OpenFault, ReadFault, TooLong, Survey, WriteFault, SessionLimit, Memory, NotYet}
+use Rattle.view_commands.specs.declared.status.Status.TheVariants.{Done, Words, Limit, NoColour, OpenFault, ReadFault, TooLong, Survey, WriteFault, SessionLimit, Memory, NotYet}
 use Rattle.view_commands.specs.declared.told.Ended as told
 use Rattle.view_commands.proofs.Counts.{at_most, same_said}
 use Rattle.view_commands.proofs.Opened.{not_opened-between}
 use Rattle.view_commands.proofs.Runs.{runs-earlier, runs-settle}
-use Rattle.view_commands.proofs.Written.{no_survey-settles, no_survey-taken, read-settles}
+use Rattle.view_commands.proofs.Written.{no_survey-settles, no_survey-taken, read-settles, unrefused}
 
 -- no survey came
 pub serves-none : (tells : Bool) (old new : Said) (survey journal input output : List ℕ) (is : status.Status) (ended : told.Ended) → survey ≢ input → ended.status ≡ is → IsNothing ended.told
@@ -24,7 +24,7 @@ serves-none tells old new survey journal input output status_is ended apart is n
     let untaken = no_survey-taken tells old new survey ended.status came input (λ same. apart (sym same)) in
     record {
       outcome = subst (λ (l : List SessionEnd). Goes tells old new survey journal input output ended l) (sym nothing.sessions) (nothing, at_most _ _ untaken, inl came);
-      settled = no_survey-settles tells old new survey (IsCalm old new journal input output) ended.status came;
+      settled = no_survey-settles tells old new survey refuses_none (IsCalm old new journal input output) ended.status came;
     }
 
 -- what was read before further inputs were opened and shut
@@ -47,6 +47,7 @@ not_opened-calm tells old new journal input output Memory none calm = inr refl
 not_opened-calm tells old new journal input output Done none calm = absurd none
 not_opened-calm tells old new journal input output (Words at) none calm = absurd none
 not_opened-calm tells old new journal input output (Limit limit) none calm = absurd none
+not_opened-calm tells old new journal input output (NoColour format) none calm = absurd none
 not_opened-calm tells old new journal input output (ReadFault at) none calm = absurd none
 not_opened-calm tells old new journal input output TooLong none calm = absurd none
 not_opened-calm tells old new journal input output (Survey told) none calm = absurd none
@@ -66,7 +67,7 @@ serves-unopened tells old mid new survey journal input output b status_is ended 
     record {
       outcome = subst (λ (l : List SessionEnd). Goes tells old new survey journal input output ended l) (sym nothing.sessions)
           (nothing, subst (λ (n : ℕ). new.taken input ≤ n) same untaken, inr (b, laid, reads, came));
-      settled = read-settles tells old new survey b (IsCalm old new journal input output) ended.status laid reads (not_opened-calm tells old new journal input output ended.status came);
+      settled = read-settles tells old new survey b refuses_none (IsCalm old new journal input output) ended.status laid reads (unrefused ended.status) (λ none calm. not_opened-calm tells old new journal input output ended.status came calm);
     }
 
 -- a survey was read, then all was opened, and then the session ran
@@ -91,5 +92,5 @@ serves-session tells old mid last new survey journal input output b left ended e
     subst (λ (o : Option (List ℕ)). RunsSession tells old new journal input output b o ended end) same_input earlier in
     record {
       outcome = subst (λ (l : List SessionEnd). Goes tells old new survey journal input output ended l) (sym one) (b, laid, reads, session);
-      settled = read-settles tells old new survey b (IsCalm old new journal input output) ended.status laid reads (λ calm. runs-settle tells old new journal input output b ended end session calm);
+      settled = read-settles tells old new survey b refuses_none (IsCalm old new journal input output) ended.status laid reads (unrefused ended.status) (λ none calm. runs-settle tells old new journal input output b ended end session calm);
     }

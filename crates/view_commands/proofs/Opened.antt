@@ -5,7 +5,7 @@ use Rattle.view_ends.specs.Desk.{Said, Untouched}
 use Rattle.view_ends.specs.Ends.{Rose, AllStay}
 use Rattle.view_commands.specs.Serve.{NotOpened, Empties}
 use Rattle.view_commands.specs.declared.status.Status as status
-use Rattle.view_commands.specs.declared.status.Status.TheVariants.{Done, Words, Limit, OpenFault, ReadFault, TooLong, Survey, WriteFault, SessionLimit, Memory, NotYet}
+use Rattle.view_commands.specs.declared.status.Status.TheVariants.{Done, Words, Limit, NoColour, OpenFault, ReadFault, TooLong, Survey, WriteFault, SessionLimit, Memory, NotYet}
 
 -- a file was emptied between two states of which each tells of the same files as the one next to it
 empties-between : (tells : Bool) (old mid last new : Said) (name : List ℕ) → AllStay old.file mid.file → AllStay last.file new.file → Empties tells mid last name → Empties tells old new name
@@ -76,6 +76,7 @@ not_opened-between tells old mid last new journal input output Memory before aft
 not_opened-between tells old mid last new journal input output Done before after none = absurd none
 not_opened-between tells old mid last new journal input output (Words at) before after none = absurd none
 not_opened-between tells old mid last new journal input output (Limit limit) before after none = absurd none
+not_opened-between tells old mid last new journal input output (NoColour format) before after none = absurd none
 not_opened-between tells old mid last new journal input output (ReadFault at) before after none = absurd none
 not_opened-between tells old mid last new journal input output TooLong before after none = absurd none
 not_opened-between tells old mid last new journal input output (Survey told) before after none = absurd none

@@ -1,5 +1,5 @@
 -- Commands that read a survey and write a text, put together of their steps.
-use Rattle.std.proofs.Common.{◌≡◌, ℕ, ◌<◌, List, Option, Some, length, refl, sym, ◌∙◌, ap, subst, arith, inl, inr}
+use Rattle.std.proofs.Common.{◌≡◌, ℕ, ◌<◌, List, Option, Some, None, length, refl, sym, ◌∙◌, ap, subst, arith, inl, inr}
 use Rattle.std.specs.Prelude.{Bool, IfSome, ◌⊎◌}
 use Rattle.las_survey.specs.Fault.{fault_of}
 use Rattle.las_survey.specs.declared.loading.TheConstants.{LIMIT}
@@ -10,9 +10,9 @@ use Rattle.view_ends.specs.Ends.{Rose, RoseBy, AllStay, OthersStay}
 use Rattle.view_meaning.specs.Layout as layout
 use Rattle.view_meaning.specs.Layout.{IsLaid}
 use Rattle.view_commands.specs.Steps.{OnlyWrote}
-use Rattle.view_commands.specs.Texts.{IsReadWhole, OnlyTook, NoSurvey, HoldsPart, KeepsText, Writes, SettlesFile, MakesText}
+use Rattle.view_commands.specs.Texts.{IsReadWhole, OnlyTook, NoSurvey, HoldsPart, KeepsText, Writes, SettlesFile, Makes, MakesText}
 use Rattle.view_commands.specs.declared.status.Status as status
-use Rattle.view_commands.specs.declared.status.Status.TheVariants.{Done, Words, Limit, OpenFault, ReadFault, TooLong, Survey, WriteFault, SessionLimit, Memory, NotYet}
+use Rattle.view_commands.specs.declared.status.Status.TheVariants.{Done, Words, Limit, NoColour, OpenFault, ReadFault, TooLong, Survey, WriteFault, SessionLimit, Memory, NotYet}
 
 -- a file that is laid out has no fault
 fault-laid : (b : List ℕ) (fault : layout.Fault) → IsLaid b → layout.fault b ≡ Some fault → ⊥
@@ -31,17 +31,18 @@ same_fault : (b : List ℕ) (found other : layout.Fault) → layout.fault b ≡ 
 same_fault b found other is also = cc (is, also)
 
 -- no survey: how that settles
-pub no_survey-settles : (tells : Bool) (old new : Said) (name : List ℕ) (calm : Type 0) (status : status.Status) → NoSurvey tells old new name status → SettlesFile tells old new name calm status
-no_survey-settles tells old new name calm (OpenFault at) none = λ tell b is opened unfailed. absurd (opened none.1)
-no_survey-settles tells old new name calm (ReadFault at) none = λ tell b is opened unfailed. absurd (unfailed none.1)
-no_survey-settles tells old new name calm TooLong none = λ tell b is opened unfailed.
+pub no_survey-settles : (tells : Bool) (old new : Said) (name : List ℕ) (refusal : List ℕ → Option status.Status) (calm : Type 0) (status : status.Status) → NoSurvey tells old new name status → SettlesFile tells old new name refusal calm status
+no_survey-settles tells old new name refusal calm (OpenFault at) none = λ tell b is opened unfailed. absurd (opened none.1)
+no_survey-settles tells old new name refusal calm (ReadFault at) none = λ tell b is opened unfailed. absurd (unfailed none.1)
+no_survey-settles tells old new name refusal calm TooLong none = λ tell b is opened unfailed.
     let long = told_long (old.file name) b is none.1 in
     record {
       too_long = λ _. inl refl;
       not_laid = λ few fault found. absurd (omega (arith, long, few));
-      laid = λ few laid calm. absurd (omega (arith, long, few));
+      refused = λ few laid status is. absurd (omega (arith, long, few));
+      laid = λ few laid free calm. absurd (omega (arith, long, few));
     }
-no_survey-settles tells old new name calm (Survey told) none = λ tell b is opened unfailed.
+no_survey-settles tells old new name refusal calm (Survey told) none = λ tell b is opened unfailed.
     let same : b ≡ none.0.0 = same_bytes (old.file name) b none.0.0 is none.0.1.all in
     let sizes : length b ≡ length none.0.0 = ap (λ (l : List ℕ). length l) same in
     let short = none.0.1.few in
@@ -49,31 +50,40 @@ no_survey-settles tells old new name calm (Survey told) none = λ tell b is open
     record {
       too_long = λ long. absurd (omega (arith, long, sizes, short));
       not_laid = λ few fault found. inl (told, refl, same_fault b (fault_of told) fault at_fault found);
-      laid = λ few laid calm. absurd (fault-laid b (fault_of told) laid at_fault);
+      refused = λ few laid status is. absurd (fault-laid b (fault_of told) laid at_fault);
+      laid = λ few laid free calm. absurd (fault-laid b (fault_of told) laid at_fault);
     }
-no_survey-settles tells old new name calm Memory none = λ tell b is opened unfailed. record {
+no_survey-settles tells old new name refusal calm Memory none = λ tell b is opened unfailed. record {
   too_long = λ long. inr refl;
   not_laid = λ few fault found. inr refl;
-  laid = λ few laid calm. inr refl;
+  refused = λ few laid status is. inr refl;
+  laid = λ few laid free calm. inr refl;
 }
-no_survey-settles tells old new name calm Done none = absurd none
-no_survey-settles tells old new name calm (Words at) none = absurd none
-no_survey-settles tells old new name calm (Limit limit) none = absurd none
-no_survey-settles tells old new name calm (WriteFault at) none = absurd none
-no_survey-settles tells old new name calm (SessionLimit at) none = absurd none
-no_survey-settles tells old new name calm NotYet none = absurd none
+no_survey-settles tells old new name refusal calm Done none = absurd none
+no_survey-settles tells old new name refusal calm (Words at) none = absurd none
+no_survey-settles tells old new name refusal calm (Limit limit) none = absurd none
+no_survey-settles tells old new name refusal calm (NoColour format) none = absurd none
+no_survey-settles tells old new name refusal calm (WriteFault at) none = absurd none
+no_survey-settles tells old new name refusal calm (SessionLimit at) none = absurd none
+no_survey-settles tells old new name refusal calm NotYet none = absurd none
 
 -- a survey that was read and is laid out settles by what comes after
-pub read-settles : (tells : Bool) (old new : Said) (name b : List ℕ) (calm : Type 0) (status : status.Status) → IsLaid b → IsReadWhole tells old new name b → (calm → (status ≡ Done) ⊎ (status ≡ Memory)) → SettlesFile tells old new name calm status
-read-settles tells old new name b calm status laid read ends = λ tell c is opened unfailed.
+pub read-settles : (tells : Bool) (old new : Said) (name b : List ℕ) (refusal : List ℕ → Option status.Status) (calm : Type 0) (ended : status.Status) → IsLaid b → IsReadWhole tells old new name b
+    → ((status : status.Status) → refusal b ≡ Some status → (ended ≡ status) ⊎ (ended ≡ Memory)) → (refusal b ≡ None → calm → (ended ≡ Done) ⊎ (ended ≡ Memory)) → SettlesFile tells old new name refusal calm ended
+read-settles tells old new name b refusal calm ended laid read refused ends = λ tell c is opened unfailed.
     let same : c ≡ b = same_bytes (old.file name) c b is read.all in
     let sizes : length c ≡ length b = ap (λ (l : List ℕ). length l) same in
     let short = read.few in
     record {
       too_long = λ long. absurd (omega (arith, long, sizes, short));
       not_laid = λ few fault found. absurd (fault-laid b fault laid (ap layout.fault (sym same) ∙ found));
-      laid = λ few fits quiet. ends quiet;
+      refused = λ few fits status is. refused status (ap refusal (sym same) ∙ is);
+      laid = λ few fits free quiet. ends (ap refusal (sym same) ∙ free) quiet;
     }
+
+-- a command that refuses no survey ends with no refusal
+pub unrefused : (ended status : status.Status) → None ≡ Some status → (ended ≡ status) ⊎ (ended ≡ Memory)
+unrefused ended status is = absurd (cc is)
 
 -- no survey: no file changed
 pub no_survey-files : (tells : Bool) (old new : Said) (name : List ℕ) (status : status.Status) → NoSurvey tells old new name status → AllStay old.file new.file
@@ -85,6 +95,7 @@ no_survey-files tells old new name Memory none = none.rest.files
 no_survey-files tells old new name Done none = absurd none
 no_survey-files tells old new name (Words at) none = absurd none
 no_survey-files tells old new name (Limit limit) none = absurd none
+no_survey-files tells old new name (NoColour format) none = absurd none
 no_survey-files tells old new name (WriteFault at) none = absurd none
 no_survey-files tells old new name (SessionLimit at) none = absurd none
 no_survey-files tells old new name NotYet none = absurd none
@@ -99,6 +110,7 @@ no_survey-taken tells old new name Memory none = none.others
 no_survey-taken tells old new name Done none = absurd none
 no_survey-taken tells old new name (Words at) none = absurd none
 no_survey-taken tells old new name (Limit limit) none = absurd none
+no_survey-taken tells old new name (NoColour format) none = absurd none
 no_survey-taken tells old new name (WriteFault at) none = absurd none
 no_survey-taken tells old new name (SessionLimit at) none = absurd none
 no_survey-taken tells old new name NotYet none = absurd none
@@ -132,6 +144,7 @@ writes-earlier tells old mid new out bytes Memory files writes unkept (inl stay,
 writes-earlier tells old mid new out bytes Memory files writes unkept (inr part, same) = (inr (part_earlier tells old mid new out bytes unkept part), same ∙ writes)
 writes-earlier tells old mid new out bytes (Words at) files writes unkept so = absurd so
 writes-earlier tells old mid new out bytes (Limit limit) files writes unkept so = absurd so
+writes-earlier tells old mid new out bytes (NoColour format) files writes unkept so = absurd so
 writes-earlier tells old mid new out bytes (ReadFault at) files writes unkept so = absurd so
 writes-earlier tells old mid new out bytes TooLong files writes unkept so = absurd so
 writes-earlier tells old mid new out bytes (Survey told) files writes unkept so = absurd so
@@ -146,6 +159,7 @@ writes-calm tells old new out bytes (WriteFault at) so calm = absurd (calm so.1.
 writes-calm tells old new out bytes Memory so calm = inr refl
 writes-calm tells old new out bytes (Words at) so calm = absurd so
 writes-calm tells old new out bytes (Limit limit) so calm = absurd so
+writes-calm tells old new out bytes (NoColour format) so calm = absurd so
 writes-calm tells old new out bytes (ReadFault at) so calm = absurd so
 writes-calm tells old new out bytes TooLong so calm = absurd so
 writes-calm tells old new out bytes (Survey told) so calm = absurd so
@@ -153,17 +167,35 @@ writes-calm tells old new out bytes (SessionLimit at) so calm = absurd so
 writes-calm tells old new out bytes NotYet so calm = absurd so
 
 -- no survey came, and nothing was written
-pub text-none : (tells : Bool) (old new : Said) (survey out : List ℕ) (text : List ℕ → List ℕ) (status : status.Status) → NoSurvey tells old new survey status → MakesText tells old new survey out text status
-text-none tells old new survey out text status none = record {
+pub text-none : (tells : Bool) (old new : Said) (survey out : List ℕ) (refusal : List ℕ → Option status.Status) (text : List ℕ → List ℕ) (status : status.Status) → NoSurvey tells old new survey status → MakesText tells old new survey out refusal text status
+text-none tells old new survey out refusal text status none = record {
   outcome = inl none;
   others = λ other apart. no_survey-files tells old new survey status none other;
-  settled = no_survey-settles tells old new survey (Rose (old.writes out) (new.writes out) → ⊥) status none;
+  settled = no_survey-settles tells old new survey refusal (Rose (old.writes out) (new.writes out) → ⊥) status none;
 }
 
--- a survey was read, and then its text written
-pub text-written : (tells : Bool) (old mid new : Said) (survey out : List ℕ) (text : List ℕ → List ℕ) (b bytes : List ℕ) (status : status.Status) → bytes ≡ text b → IsLaid b → IsReadWhole tells old mid survey b → OnlyTook old mid survey
-    → Writes tells mid new out bytes status → OnlyWrote mid new out → MakesText tells old new survey out text status
-text-written tells old mid new survey out text b bytes status is laid read took written only =
+refused_alone : (o : Option status.Status) (refusal : status.Status) → o ≡ Some refusal → o ≡ None → ⊥
+refused_alone o refusal is none = absurd (cc (is, none))
+
+-- a survey was read and refused, and nothing was written
+pub text-refused : (tells : Bool) (old new : Said) (survey out : List ℕ) (refusal : List ℕ → Option status.Status) (text : List ℕ → List ℕ) (b : List ℕ) (status : status.Status) → refusal b ≡ Some status → IsLaid b → IsReadWhole tells old new survey b → OnlyTook old new survey
+    → MakesText tells old new survey out refusal text status
+text-refused tells old new survey out refusal text b status is laid read took =
+    let made : Makes tells old new survey out (refusal b) (text b) status =
+    subst (λ (o : Option status.Status). Makes tells old new survey out o (text b) status) (sym is) (refl, took) in
+    record {
+      outcome = inr (b, laid, read, made);
+      others = λ other apart. took.rest.files other;
+      settled = read-settles tells old new survey b refusal (Rose (old.writes out) (new.writes out) → ⊥) status laid read (λ other also. inl (the_same (refusal b) status other is also)) (λ free calm. absurd (refused_alone (refusal b) status is free));
+    }
+  where
+    the_same : (o : Option status.Status) (one other : status.Status) → o ≡ Some one → o ≡ Some other → one ≡ other
+    the_same o one other is also = cc (is, also)
+
+-- a survey was read and not refused, and then its text written
+pub text-written : (tells : Bool) (old mid new : Said) (survey out : List ℕ) (refusal : List ℕ → Option status.Status) (text : List ℕ → List ℕ) (b bytes : List ℕ) (status : status.Status) → bytes ≡ text b → refusal b ≡ None → IsLaid b → IsReadWhole tells old mid survey b → OnlyTook old mid survey
+    → Writes tells mid new out bytes status → OnlyWrote mid new out → MakesText tells old new survey out refusal text status
+text-written tells old mid new survey out refusal text b bytes status is free laid read took written only =
     let reads : IsReadWhole tells old new survey b = record {
       few = read.few;
       all = read.all;
@@ -174,8 +206,10 @@ text-written tells old mid new survey out text b bytes status is laid read took 
     } in
     let writes : Writes tells old new out (text b) status =
     subst (λ (l : List ℕ). Writes tells old new out l status) is (writes-earlier tells old mid new out bytes status took.rest.files (took.rest.writes out) (took.rest.unkept out) written) in
+    let made : Makes tells old new survey out (refusal b) (text b) status =
+    subst (λ (o : Option status.Status). Makes tells old new survey out o (text b) status) (sym free) writes in
     record {
-      outcome = inr (b, laid, reads, writes);
+      outcome = inr (b, laid, reads, made);
       others = λ other apart. only.files other apart ∙ took.rest.files other;
-      settled = read-settles tells old new survey b (Rose (old.writes out) (new.writes out) → ⊥) status laid reads (writes-calm tells old new out (text b) status writes);
+      settled = read-settles tells old new survey b refusal (Rose (old.writes out) (new.writes out) → ⊥) status laid reads (λ other also. absurd (refused_alone (refusal b) other also free)) (λ none calm. writes-calm tells old new out (text b) status writes calm);
     }

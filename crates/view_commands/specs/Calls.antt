@@ -5,7 +5,7 @@ use Rattle.view_ends.specs.Desk.{Said, Untouched}
 use Rattle.view_base.specs.Fitting.{word_at}
 use Rattle.view_words.specs.CommandLine.{badword, IsLine}
 use Rattle.view_words.specs.declared.row.Row.TheVariants.{Draw, Info}
-use Rattle.view_commands.specs.Texts.{DrawsView, view_in, MakesText}
+use Rattle.view_commands.specs.Texts.{DrawsView, view_in, MakesText, refuses_none}
 use Rattle.view_commands.specs.declared.status.Status as status
 use Rattle.view_commands.specs.declared.status.Status.TheVariants.{Words}
 
@@ -17,4 +17,4 @@ pub record AnswersDraw (tells : Bool) (old new : Said) (ws : List (List ℕ)) (e
 -- words are answered as those of an `info`: by the first that is refused, or else as a line
 pub record AnswersInfo (tells : Bool) (old new : Said) (ws : List (List ℕ)) (ended : status.Status) : Type 0 where
   pub refused : (at : ℕ) → badword (Info ∷ []) ws ≡ Some at → (ended ≡ Words at) × Untouched old new
-  pub line : IsLine Info ws → MakesText tells old new (word_at ws 1) (word_at ws 2) info_text ended
+  pub line : IsLine Info ws → MakesText tells old new (word_at ws 1) (word_at ws 2) refuses_none info_text ended

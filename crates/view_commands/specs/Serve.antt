@@ -17,7 +17,7 @@ use Rattle.view_commands.specs.declared.status.Status as status
 use Rattle.view_commands.specs.declared.status.Status.TheVariants.{Done, OpenFault, ReadFault, WriteFault, SessionLimit, Memory}
 use Rattle.view_commands.specs.declared.told.Ended.{Ended}
 use Rattle.view_commands.specs.declared.told.Told.{Told}
-use Rattle.view_commands.specs.Texts.{IsReadWhole, NoSurvey, KeepsText, SettlesFile}
+use Rattle.view_commands.specs.Texts.{IsReadWhole, NoSurvey, KeepsText, SettlesFile, refuses_none}
 
 -- the canonical line and LF of each of these edits, in order
 unfoldable pub journal_text : List meaning.Edit → List ℕ
@@ -140,4 +140,4 @@ pub record ServesOne (tells : Bool) (old new : Said) (survey journal input outpu
   -- no session, by a refusal with its cause, or one
   pub outcome : Goes tells old new survey journal input output ended ended.told.sessions.items
   -- and the status where nothing outside failed
-  pub settled : SettlesFile tells old new survey (IsCalm old new journal input output) ended.status
+  pub settled : SettlesFile tells old new survey refuses_none (IsCalm old new journal input output) ended.status

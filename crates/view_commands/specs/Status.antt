@@ -3,13 +3,14 @@ use Rattle.std.specs.Prelude.{ℕ, List, [], ◌++◌, codes, decimal}
 use Rattle.std.specs.Fmt.{signed_decimal}
 use Rattle.las_survey.specs.FaultText as survey
 use Rattle.view_commands.specs.declared.status.Status as status
-use Rattle.view_commands.specs.declared.status.Status.TheVariants.{Done, Words, Limit, OpenFault, ReadFault, TooLong, Survey, WriteFault, SessionLimit, Memory, NotYet}
+use Rattle.view_commands.specs.declared.status.Status.TheVariants.{Done, Words, Limit, NoColour, OpenFault, ReadFault, TooLong, Survey, WriteFault, SessionLimit, Memory, NotYet}
 
 -- the exit code of a status
 abbrev pub code_of : status.Status → ℕ
 code_of Done = 0
 code_of (Words _) = 2
 code_of (Limit _) = 3
+code_of (NoColour _) = 4
 code_of (OpenFault _) = 5
 code_of (ReadFault _) = 6
 code_of TooLong = 7
@@ -24,6 +25,7 @@ abbrev pub text_of : status.Status → List ℕ
 text_of Done = []
 text_of (Words at) = codes "word " ++ decimal at ++ codes " is not expected"
 text_of (Limit limit) = codes "camera number " ++ decimal limit.place ++ codes " is out of range: " ++ signed_decimal limit.value
+text_of (NoColour format) = codes "format " ++ decimal format ++ codes " has no colour"
 text_of (OpenFault at) = codes "cannot open word " ++ decimal at
 text_of (ReadFault at) = codes "cannot read word " ++ decimal at
 text_of TooLong = codes "survey is too long"

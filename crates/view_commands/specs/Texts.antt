@@ -1,5 +1,5 @@
 -- What a command makes of a survey that it reads from a desk, and writes there as a text.
-use Rattle.std.specs.Prelude.{◌≡◌, ℕ, ◌+◌, ◌-◌, ◌<◌, ◌≤◌, ◌⊎◌, Bool, IsTrue, List, [], length, take, Some, IsSome, IfSome, Result, Ok, Err}
+use Rattle.std.specs.Prelude.{◌≡◌, ℕ, ◌+◌, ◌-◌, ◌<◌, ◌≤◌, ◌⊎◌, Bool, IsTrue, List, [], length, take, Option, Some, None, IsSome, IfSome, Result, Ok, Err, if◌then◌else◌}
 use Rattle.las_survey.specs.Fault.{fault_of}
 use Rattle.las_survey.specs.declared.fault.SurveyFault.{SurveyFault}
 use Rattle.las_survey.specs.declared.loading.TheConstants.{LIMIT}
@@ -11,14 +11,15 @@ use Rattle.view_ends.specs.Ends.{Rose, RoseBy, AllStay, OthersStay}
 use Rattle.view_meaning.specs.Classes.{classes}
 use Rattle.view_meaning.specs.Layout as layout
 use Rattle.view_meaning.specs.Layout.{IsLaid}
-use Rattle.view_meaning.specs.Picture.{View, picture}
-use Rattle.view_text.specs.ViewWords.{camera_numbers, is_built, view_by}
+use Rattle.view_meaning.specs.Picture.{View, can_colour, picture}
+use Rattle.view_meaning.specs.Survey.{format_of}
+use Rattle.view_text.specs.ViewWords.{fitting_view}
 use Rattle.view_text.specs.declared.fault.TextFault as text
 use Rattle.view_text.specs.declared.fault.TextFault.TheVariants as fault
 use Rattle.view_words.specs.CommandLine.{view_words}
 use Rattle.view_commands.specs.declared.places.TheConstants.{SURVEY, OUT}
 use Rattle.view_commands.specs.declared.status.Status as status
-use Rattle.view_commands.specs.declared.status.Status.TheVariants.{Done, Limit, OpenFault, ReadFault, TooLong, Survey, WriteFault, Memory, NotYet}
+use Rattle.view_commands.specs.declared.status.Status.TheVariants.{Done, Limit, NoColour, OpenFault, ReadFault, TooLong, Survey, WriteFault, Memory}
 
 -- a name was opened and read to the end of its bytes, which are few enough for a survey, and nothing failed
 pub record IsReadWhole (tells : Bool) (old new : Said) (name b : List ℕ) : Type 0 where
@@ -66,43 +67,58 @@ Writes tells old new out bytes (WriteFault at) = (at ≡ OUT) × KeepsText tells
 Writes tells old new out bytes Memory = (AllStay old.file new.file ⊎ HoldsPart tells old new out bytes) × (new.writes out ≡ old.writes out)
 Writes tells old new out bytes _ = ⊥
 
--- how a command over a survey of these bytes ends where that was opened and read without a fault, and what else
--- it needs has none; want of memory is always free
-pub record Settles (b : List ℕ) (calm : Type 0) (ended : status.Status) : Type 0 where
+-- how a command over a survey of these bytes, which it may refuse with a status, ends where that was opened and
+-- read without a fault, and what else it needs has none; want of memory is always free
+pub record Settles (b : List ℕ) (refusal : Option status.Status) (calm : Type 0) (ended : status.Status) : Type 0 where
   -- too many bytes end with `TooLong`
   pub too_long : LIMIT < length b → (ended ≡ TooLong) ⊎ (ended ≡ Memory)
   -- few enough bytes with a fault end with the first of it
   pub not_laid : length b ≤ LIMIT → (fault : layout.Fault) → layout.fault b ≡ Some fault
       → ((found : SurveyFault) × (ended ≡ Survey found) × (fault_of found ≡ fault)) ⊎ (ended ≡ Memory)
-  -- and those that are laid out with `Done`
-  pub laid : length b ≤ LIMIT → IsLaid b → calm → (ended ≡ Done) ⊎ (ended ≡ Memory)
+  -- those that are laid out and refused end with the refusal
+  pub refused : length b ≤ LIMIT → IsLaid b → (status : status.Status) → refusal ≡ Some status → (ended ≡ status) ⊎ (ended ≡ Memory)
+  -- and those that are laid out and not refused with `Done`
+  pub laid : length b ≤ LIMIT → IsLaid b → refusal ≡ None → calm → (ended ≡ Done) ⊎ (ended ≡ Memory)
 
 -- the same of the file of a name, where the desk tells its files
-abbrev pub SettlesFile : Bool → Said → Said → List ℕ → Type 0 → status.Status → Type 0
-SettlesFile tells old new name calm ended = IsTrue tells → (b : List ℕ) → old.file name ≡ Some b
-    → (Rose (old.unopened name) (new.unopened name) → ⊥) → (Rose (old.reads name) (new.reads name) → ⊥) → Settles b calm ended
+abbrev pub SettlesFile : Bool → Said → Said → List ℕ → (List ℕ → Option status.Status) → Type 0 → status.Status → Type 0
+SettlesFile tells old new name refusal calm ended = IsTrue tells → (b : List ℕ) → old.file name ≡ Some b
+    → (Rose (old.unopened name) (new.unopened name) → ⊥) → (Rose (old.reads name) (new.reads name) → ⊥) → Settles b (refusal b) calm ended
 
--- what a command makes of the survey of one name and writes into the file of another: no survey came, or the
--- text of its bytes was written; and no other file changed
-pub record MakesText (tells : Bool) (old new : Said) (survey out : List ℕ) (text : List ℕ → List ℕ) (ended : status.Status) : Type 0 where
-  -- no survey came, by its cause; or one that is laid out was read to its end, and its text was written, or why not
-  pub outcome : NoSurvey tells old new survey ended ⊎ ((b : List ℕ) × IsLaid b × IsReadWhole tells old new survey b × Writes tells old new out (text b) ended)
+-- a command that refuses no survey
+abbrev pub refuses_none : List ℕ → Option status.Status
+refuses_none b = None
+
+-- what a command made of a survey that was read: its text was written, or why not; or the survey is refused, and
+-- nothing changed but how much was taken of it
+abbrev pub Makes : Bool → Said → Said → List ℕ → List ℕ → Option status.Status → List ℕ → status.Status → Type 0
+Makes tells old new survey out None text ended = Writes tells old new out text ended
+Makes tells old new survey out (Some refusal) text ended = (ended ≡ refusal) × OnlyTook old new survey
+
+-- what a command makes of the survey of one name, which it may refuse with a status, and writes into the file of
+-- another: no survey came, or it is refused, or the text of its bytes was written; and no other file changed
+pub record MakesText (tells : Bool) (old new : Said) (survey out : List ℕ) (refusal : List ℕ → Option status.Status) (text : List ℕ → List ℕ) (ended : status.Status) : Type 0 where
+  -- no survey came, by its cause; or one that is laid out was read to its end, and what was made of it
+  pub outcome : NoSurvey tells old new survey ended ⊎ ((b : List ℕ) × IsLaid b × IsReadWhole tells old new survey b × Makes tells old new survey out (refusal b) (text b) ended)
   -- no other file changed
   pub others : OthersStay old.file new.file out
   -- and the status where nothing outside failed
-  pub settled : SettlesFile tells old new survey (Rose (old.writes out) (new.writes out) → ⊥) ended
+  pub settled : SettlesFile tells old new survey refusal (Rose (old.writes out) (new.writes out) → ⊥) ended
+
+-- the refusal of a survey by its point format, where that has no red, green and blue and a view shows them
+abbrev pub colour_refusal : View → List ℕ → Option status.Status
+colour_refusal view b = if can_colour (format_of b) view.colouring then None else Some (NoColour (format_of b))
 
 -- the picture of a survey as the file itself has its classes
 abbrev pub drawn : List ℕ → View → List ℕ
 drawn b view = picture b (classes b []) view
 
--- how a `draw` is answered whose words ask for this view, or for one that can't be drawn
+-- how a `draw` is answered whose words ask for this view, or have a camera number out of its range
 abbrev pub DrawsView : Bool → Said → Said → List (List ℕ) → Result View text.TextFault → status.Status → Type 0
-DrawsView tells old new ws (Ok view) ended = MakesText tells old new (word_at ws 1) (word_at ws 2) (λ b. drawn b view) ended
-DrawsView tells old new ws (Err fault.NotYet) ended = (ended ≡ NotYet) × Untouched old new
+DrawsView tells old new ws (Ok view) ended = MakesText tells old new (word_at ws 1) (word_at ws 2) (colour_refusal view) (λ b. drawn b view) ended
 DrawsView tells old new ws (Err (fault.Limit limit)) ended = (ended ≡ Limit limit) × Untouched old new
 DrawsView tells old new ws (Err (fault.Line _)) ended = ⊥
 
--- the view that the words of a `draw` ask for, or why it can't be drawn
+-- the view that the words of a `draw` ask for, or the first camera number that is out of its range
 abbrev pub view_in : List (List ℕ) → Result View text.TextFault
-view_in ws = let view = view_words ws in view_by (is_built view) (camera_numbers view)
+view_in ws = fitting_view (view_words ws)

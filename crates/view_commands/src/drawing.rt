@@ -1,58 +1,59 @@
-ghost use Rattle.std.specs.Prelude.{◌≡◌, ◌≤◌, length, IfOk};
+ghost use Rattle.std.specs.Prelude.{◌≡◌, ◌≤◌, length, true, IfOk};
+ghost use Rattle.view_base.specs.Fitting.{word_at};
 ghost use Rattle.view_commands.specs.Calls.{AnswersDraw};
-ghost use Rattle.view_commands.specs.Texts.{DrawsView, MakesText, drawn, view_in};
-ghost use Rattle.view_meaning.specs.Picture.{by_class};
+ghost use Rattle.view_commands.specs.Texts.{MakesText, colour_refusal, drawn};
+ghost use Rattle.view_meaning.specs.Picture.{can_colour};
+ghost use Rattle.view_meaning.specs.Survey.{format_of};
 ghost use Rattle.view_words.specs.CommandLine.{IsLine, texts};
 
 use crate::status::Status;
 use crate::texts::{read_survey, write_text};
 use class_pages::base;
+use las_points::can_colour;
 use las_survey::Survey;
-use plain_picture::{Scene, picture};
+use sessions::{Scene, picture};
 use std::alloc::Global;
 use std::sync::Arc;
 use view_base::{Bytes, OutOfMemory};
 use view_ends::{Beside, Desk};
 use view_text::{TextFault, ViewSpec};
-use view_words::{Row, read_row, text_at, view_of_draw, workers};
+use view_words::{Row, read_draw, text_at, workers};
 
 /// Writes one picture of a survey. The words are those of the command line, `draw` first; those of
 /// another command are refused.
 ///
-/// The picture is whole in memory before its file is opened, so no refusal before that touches a
-/// file. How many workers draw it changes no byte.
+/// The first of these that applies is the status: a refused word, a camera number out of its range,
+/// a survey that was not opened, not read, too long or not laid out, a colouring that its format
+/// doesn't have, and an output that was not opened or not written. The picture is whole in memory
+/// before its file is opened, so no refusal before that touches a file. How many workers draw it
+/// changes no byte.
 pub fn draw<D: Desk, B: Beside>(alloc: Global, words: &[String], desk: &mut D, beside: &B) -> Status
     ensures { AnswersDraw D.tells (D.says desk.old) (D.says desk.new) (texts words.now) result }
 {
-    match read_row(Row::Draw, words) {
-        Ok(()) => draw_line(alloc, words, desk, beside),
-        Err(at) => Status::Words { at },
+    match read_draw(words) {
+        Ok(view) => draw_view(alloc, words, &view, desk, beside),
+        Err(fault) => match fault {
+            TextFault::Line { at } => Status::Words { at },
+            TextFault::Limit(limit) => Status::Limit(limit),
+        },
     }
 }
 
-/// Writes the picture that the words of a `draw` ask for, which fit.
-pub(crate) fn draw_line<D: Desk, B: Beside>(
+/// Writes the picture of a view under the names of the words of a `draw`, which fit.
+fn draw_view<D: Desk, B: Beside>(
     alloc: Global,
     words: &[String],
+    view: &ViewSpec,
     desk: &mut D,
     beside: &B,
 ) -> Status
     requires line { IsLine Row.Draw (texts words.now) }
     requires long { 26 ≤ length words.now }
-    ensures { DrawsView D.tells (D.says desk.old) (D.says desk.new) (texts words.now) (view_in (texts words.now)) result }
+    ensures { MakesText D.tells (D.says desk.old) (D.says desk.new) (word_at (texts words.now) 1) (word_at (texts words.now) 2) (colour_refusal view.now) (λ b. drawn b view.now) result }
 {
-    match view_of_draw(words) {
-        Ok(view) => {
-            let workers = workers(Row::Draw, words);
-            let (name, out) = (text_at(words, 1), text_at(words, 2));
-            draw_file(alloc, name, out, &view, workers, desk, beside)
-        }
-        Err(fault) => match fault {
-            TextFault::NotYet => Status::NotYet,
-            TextFault::Limit(limit) => Status::Limit(limit),
-            TextFault::Line { .. } => unreachable!(),
-        },
-    }
+    let workers = workers(Row::Draw, words);
+    let (name, out) = (text_at(words, 1), text_at(words, 2));
+    draw_file(alloc, name, out, view, workers, desk, beside)
 }
 
 /// Draws the survey of one name into the file of another.
@@ -66,20 +67,23 @@ fn draw_file<D: Desk, B: Beside>(
     beside: &B,
 ) -> Status
     requires workers { (1 ≤ workers) × (workers ≤ 64) }
-    requires built { view.now ≡ by_class view.now.camera }
-    ensures { MakesText D.tells (D.says desk.old) (D.says desk.new) name.now out.now (λ b. drawn b view.now) result }
+    ensures { MakesText D.tells (D.says desk.old) (D.says desk.new) name.now out.now (colour_refusal view.now) (λ b. drawn b view.now) result }
 {
     let survey = match read_survey(alloc, desk, name) {
         Ok(survey) => survey,
         Err(status) => return status,
     };
+    let format = survey.header().format;
+    if !can_colour(format, view.colouring) {
+        return Status::NoColour { format };
+    }
     match picture_of(alloc, survey, view, workers, beside) {
         Ok(bytes) => write_text(desk, out, bytes.as_slice()),
         Err(OutOfMemory) => Status::Memory,
     }
 }
 
-/// The picture of a survey as the file itself has its classes, by class.
+/// The picture of a survey as the file itself has its classes.
 fn picture_of<B: Beside>(
     alloc: Global,
     survey: Survey,
@@ -88,7 +92,7 @@ fn picture_of<B: Beside>(
     beside: &B,
 ) -> Result<Bytes, OutOfMemory>
     requires workers { (1 ≤ workers) × (workers ≤ 64) }
-    requires built { view.now ≡ by_class view.now.camera }
+    requires can_colour { can_colour (format_of survey) view.now.colouring ≡ true }
     ensures { IfOk result (λ bytes. bytes.items ≡ drawn survey view.now) }
 {
     let scene = Scene {

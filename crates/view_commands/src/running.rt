@@ -1,45 +1,49 @@
-ghost use Rattle.std.specs.Prelude.{◌≡◌, ◌≢◌, ◌≤◌, length};
-ghost use Rattle.view_commands.specs.Run.{Runs, RunsLine, RunsServe};
+ghost use Rattle.std.specs.Prelude.{◌≡◌, ◌≢◌, length};
+ghost use Rattle.view_commands.specs.Run.{Runs, RunsRow, RunsServe};
 ghost use Rattle.view_base.specs.Fitting.{word_at};
-ghost use Rattle.view_words.specs.CommandLine.{IsLine, least_words, texts};
+ghost use Rattle.view_words.specs.CommandLine.{IsLine, texts};
 
-use crate::drawing::draw_line;
-use crate::informing::info_line;
+use crate::drawing::draw;
+use crate::informing::info;
 use crate::opening::Names;
 use crate::serving::serve;
 use crate::status::Status;
 use crate::told::{Ended, Told};
 use std::alloc::Global;
 use view_ends::{Beside, Desk};
-use view_words::{Row, pair_count, read_words, text_at, workers};
+use view_words::{Row, pair_count, read_row, row_of, text_at, workers};
 
 /// Runs the command that the words of the command line ask for, without the program's name.
 pub fn run<D: Desk, B: Beside>(alloc: Global, words: &[String], desk: &mut D, beside: &B) -> Ended
     ensures { Runs D.tells (D.says desk.old) (D.says desk.new) (texts words.now) result }
 {
-    match read_words(words) {
-        Ok(row) => run_line(alloc, row, words, desk, beside),
-        Err(at) => Ended::only(alloc, Status::Words { at }),
+    match row_of(words) {
+        Some(row) => run_row(alloc, row, words, desk, beside),
+        None => Ended::only(alloc, Status::Words { at: 0 }),
     }
 }
 
-/// Runs the command of a row, whose words fit.
-fn run_line<D: Desk, B: Beside>(
+/// Runs the command of a row, with which the words begin.
+fn run_row<D: Desk, B: Beside>(
     alloc: Global,
     row: Row,
     words: &[String],
     desk: &mut D,
     beside: &B,
 ) -> Ended
-    requires line { IsLine row (texts words.now) }
-    requires long { least_words row ≤ length words.now }
-    ensures { RunsLine row D.tells (D.says desk.old) (D.says desk.new) (texts words.now) result }
+    ensures { RunsRow row D.tells (D.says desk.old) (D.says desk.new) (texts words.now) result }
 {
     match row {
-        Row::Draw => Ended::only(alloc, draw_line(alloc, words, desk, beside)),
-        Row::Info => Ended::only(alloc, info_line(alloc, words, desk)),
-        Row::Trial => Ended::only(alloc, Status::NotYet),
-        Row::Serve => serve_line(alloc, words, desk, beside),
+        Row::Draw => Ended::only(alloc, draw(alloc, words, desk, beside)),
+        Row::Info => Ended::only(alloc, info(alloc, words, desk)),
+        Row::Trial => match read_row(Row::Trial, words) {
+            Ok(()) => Ended::only(alloc, Status::NotYet),
+            Err(at) => Ended::only(alloc, Status::Words { at }),
+        },
+        Row::Serve => match read_row(Row::Serve, words) {
+            Ok(()) => serve_line(alloc, words, desk, beside),
+            Err(at) => Ended::only(alloc, Status::Words { at }),
+        },
     }
 }
 

@@ -18,6 +18,9 @@ pub enum Status {
     Words { at: u32 },
     /// The first number of the camera that is out of its range.
     Limit(CameraLimit),
+    /// The view shows red, green and blue, which records of the survey's point data record format
+    /// don't have.
+    NoColour { format: u8 },
     /// A file was not opened.
     OpenFault { at: u32 },
     /// A file was not read to its end.
@@ -44,6 +47,7 @@ pub fn code(status: &Status) -> u8
         Status::Done => 0,
         Status::Words { .. } => 2,
         Status::Limit(_) => 3,
+        Status::NoColour { .. } => 4,
         Status::OpenFault { .. } => 5,
         Status::ReadFault { .. } => 6,
         Status::TooLong => 7,
@@ -97,6 +101,7 @@ impl fmt::Display for Status {
                 "camera number {} is out of range: {}",
                 limit.place, limit.value
             ),
+            Status::NoColour { format } => write!(f, "format {format} has no colour"),
             Status::OpenFault { at } => write!(f, "cannot open word {at}"),
             Status::ReadFault { at } => write!(f, "cannot read word {at}"),
             Status::TooLong => f.write_str("survey is too long"),

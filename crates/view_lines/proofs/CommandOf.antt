@@ -3,10 +3,10 @@ use Rattle.std.proofs.Common.{◌≡◌, ◌∙◌, ℕ, Bool, true, false, List
 use Rattle.std.specs.Prelude.{codes}
 use Rattle.std.specs.Str.{bytes_eq}
 use Rattle.view_base.specs.Text.{words}
-use Rattle.view_text.specs.ViewWords.{view_of}
+use Rattle.view_text.specs.ViewWords.{view_of, filter_of}
 use Rattle.edit_ops.specs.EditLine.{edit_of}
 use Rattle.view_lines.specs.declared.refusal.Refusal.TheVariants.{Line}
-use Rattle.view_lines.specs.Command.{viewed, edited, save_of, command_of, command_of_words}
+use Rattle.view_lines.specs.Command.{viewed, edited, counted, save_of, command_of, command_of_words}
 
 -- whether a word is a text, by an answer that compared it with that text
 pub bytes_eq-answered : (word literal text : List ℕ) (answer truth : Bool) → answer ≡ bytes_eq word literal → literal ≡ text → answer ≡ truth → bytes_eq word text ≡ truth
@@ -16,7 +16,7 @@ pub command_of-wordless : (line : List ℕ) (format : ℕ) → words line ≡ []
 unfolding command_of command_of_words
 command_of-wordless line format none = rw none refl
 
-pub command_of-view : (line word : List ℕ) (others : List (List ℕ)) (format : ℕ) → words line ≡ word ∷ others → bytes_eq word (codes "view") ≡ true → command_of line format ≡ viewed (view_of others)
+pub command_of-view : (line word : List ℕ) (others : List (List ℕ)) (format : ℕ) → words line ≡ word ∷ others → bytes_eq word (codes "view") ≡ true → command_of line format ≡ viewed format (view_of others)
 unfolding command_of command_of_words
 command_of-view line word others format is view = rw is (rw view refl)
 
@@ -24,10 +24,16 @@ pub command_of-edit : (line word : List ℕ) (others : List (List ℕ)) (format 
 unfolding command_of command_of_words
 command_of-edit line word others format is view edit = rw is (rw (view, edit) refl)
 
-pub command_of-save : (line word : List ℕ) (others : List (List ℕ)) (format : ℕ) → words line ≡ word ∷ others → bytes_eq word (codes "view") ≡ false → bytes_eq word (codes "edit") ≡ false → bytes_eq word (codes "save") ≡ true → command_of line format ≡ save_of others
+pub command_of-count : (line word : List ℕ) (others : List (List ℕ)) (format : ℕ) → words line ≡ word ∷ others → bytes_eq word (codes "view") ≡ false → bytes_eq word (codes "edit") ≡ false → bytes_eq word (codes "count") ≡ true → command_of line format ≡ counted (filter_of others)
 unfolding command_of command_of_words
-command_of-save line word others format is view edit save = rw is (rw (view, edit, save) refl)
+command_of-count line word others format is view edit count = rw is (rw (view, edit, count) refl)
 
-pub command_of-other : (line word : List ℕ) (others : List (List ℕ)) (format : ℕ) → words line ≡ word ∷ others → bytes_eq word (codes "view") ≡ false → bytes_eq word (codes "edit") ≡ false → bytes_eq word (codes "save") ≡ false → command_of line format ≡ Err Line
+pub command_of-save : (line word : List ℕ) (others : List (List ℕ)) (format : ℕ) → words line ≡ word ∷ others → bytes_eq word (codes "view") ≡ false → bytes_eq word (codes "edit") ≡ false → bytes_eq word (codes "count") ≡ false → bytes_eq word (codes "save") ≡ true
+    → command_of line format ≡ save_of others
 unfolding command_of command_of_words
-command_of-other line word others format is view edit save = rw is (rw (view, edit, save) refl)
+command_of-save line word others format is view edit count save = rw is (rw (view, edit, count, save) refl)
+
+pub command_of-other : (line word : List ℕ) (others : List (List ℕ)) (format : ℕ) → words line ≡ word ∷ others → bytes_eq word (codes "view") ≡ false → bytes_eq word (codes "edit") ≡ false → bytes_eq word (codes "count") ≡ false → bytes_eq word (codes "save") ≡ false
+    → command_of line format ≡ Err Line
+unfolding command_of command_of_words
+command_of-other line word others format is view edit count save = rw is (rw (view, edit, count, save) refl)

@@ -1,5 +1,5 @@
--- What an edit that was read has room for.
-use Rattle.std.proofs.Common.{◌≡◌, ℕ, ◌≤◌, Option, Some, None, Ok, Err, List, inl, inr, subst}
+-- What a format has for a command that was read.
+use Rattle.std.proofs.Common.{◌≡◌, ℕ, ◌≤◌, Option, Some, None, Ok, Err, IfOk, Result, List, [], ◌∷◌, inl, inr, subst}
 use Rattle.std.specs.Option.{option_map_or}
 use Rattle.std.specs.Prelude.{unwrap_or}
 use Rattle.std.proofs.lemmas.Bool.{cases_lt, le-leb, lt-leb}
@@ -9,6 +9,10 @@ use Rattle.view_meaning.specs.Classes as meaning
 use Rattle.view_meaning.specs.Classes.{top_class}
 use Rattle.edit_ops.specs.declared.fault.EditFault.TheVariants.{Line}
 use Rattle.edit_ops.specs.EditLine.{fits, is_whole, ranged_edit, edit_of}
+use Rattle.view_lines.specs.declared.command.Command.{Command}
+use Rattle.view_lines.specs.declared.command.Command.TheVariants.{View, Edit, Count, Save}
+use Rattle.view_lines.specs.declared.refusal.Refusal.{Refusal}
+use Rattle.view_lines.specs.Command.{FitsFormat, save_of}
 
 ranged_edit-room : (ws : List (List ℕ)) (format to : ℕ) (e : meaning.Edit) → ranged_edit ws format to ≡ Ok e → e.to ≤ top_class format
 ranged_edit-room ws format to e is =
@@ -28,3 +32,13 @@ misfit-room None ws format to e is = ranged_edit-room ws format to e is
 pub edit_of-room : (ws : List (List ℕ)) (format : ℕ) (e : meaning.Edit) → edit_of ws format ≡ Ok e → e.to ≤ top_class format
 unfolding edit_of
 edit_of-room ws format e is = misfit-room (misfit fits is_whole ws) ws format (unwrap_or (digits (word_at ws 8)) 0) e is
+
+-- a save needs nothing of the format
+pub save_of-fits : (ws : List (List ℕ)) (format : ℕ) (read : Result Command Refusal) → read ≡ save_of ws → IfOk read (FitsFormat format)
+save_of-fits [] format (Ok (View view)) is = absurd (cc is)
+save_of-fits [] format (Ok (Edit e)) is = absurd (cc is)
+save_of-fits [] format (Ok (Count filter)) is = tt
+save_of-fits [] format (Ok Save) is = tt
+save_of-fits [] format (Err refusal) is = tt
+save_of-fits (word ∷ others) format (Ok command) is = absurd (cc is)
+save_of-fits (word ∷ others) format (Err refusal) is = tt

@@ -1,32 +1,38 @@
--- The commands of a session's lines: `view` and the words of a view, `edit` and the words of an edit, and `save`.
-use Rattle.std.specs.Prelude.{◌≡◌, ℕ, ◌≤◌, List, [], ◌∷◌, codes, Result, Ok, Err, if◌then◌else◌}
+-- The commands of a session's lines: `view` and the words of a view, `edit` and the words of an edit, `count` and the
+-- words of a filter, and `save`.
+use Rattle.std.specs.Prelude.{◌≡◌, ℕ, ◌≤◌, true, List, [], ◌∷◌, codes, Result, Ok, Err, if◌then◌else◌}
 use Rattle.std.specs.Str.{bytes_eq}
 use Rattle.view_base.specs.Text.{words}
 use Rattle.view_meaning.specs.Picture as picture
 use Rattle.view_meaning.specs.Classes as meaning
 use Rattle.view_text.specs.declared.fault.TextFault as text
 use Rattle.view_text.specs.declared.fault.TextFault.TheVariants as unread
-use Rattle.view_text.specs.ViewWords.{view_of}
+use Rattle.view_text.specs.ViewWords.{view_of, filter_of}
 use Rattle.edit_ops.specs.declared.fault.EditFault as edit
 use Rattle.edit_ops.specs.declared.fault.EditFault.TheVariants as unfit
 use Rattle.edit_ops.specs.EditLine.{edit_of}
 use Rattle.view_lines.specs.declared.command.Command as command
-use Rattle.view_lines.specs.declared.command.Command.TheVariants.{View, Edit, Save}
+use Rattle.view_lines.specs.declared.command.Command.TheVariants.{View, Edit, Count, Save}
 use Rattle.view_lines.specs.declared.refusal.Refusal as refusal
-use Rattle.view_lines.specs.declared.refusal.Refusal.TheVariants.{Line, Limit, ClassRange}
+use Rattle.view_lines.specs.declared.refusal.Refusal.TheVariants.{Line, Limit, NoColour, ClassRange}
 
--- the command of a view, or why it is refused: a view that isn't drawn so far is no line of the grammar
-abbrev pub viewed : Result picture.View text.TextFault → Result command.Command refusal.Refusal
-viewed (Ok view) = Ok (View view)
-viewed (Err (unread.Line at)) = Err Line
-viewed (Err unread.NotYet) = Err Line
-viewed (Err (unread.Limit limit)) = Err (Limit limit)
+-- the command of a view for a point format, or why it is refused: a camera number out of its range goes before a
+-- colouring that the format's records don't have
+abbrev pub viewed : ℕ → Result picture.View text.TextFault → Result command.Command refusal.Refusal
+viewed format (Ok view) = if picture.can_colour format view.colouring then Ok (View view) else Err NoColour
+viewed format (Err (unread.Line at)) = Err Line
+viewed format (Err (unread.Limit limit)) = Err (Limit limit)
 
 -- the command of an edit, or why it is refused
 abbrev pub edited : Result meaning.Edit edit.EditFault → Result command.Command refusal.Refusal
 edited (Ok e) = Ok (Edit e)
 edited (Err (unfit.Line at)) = Err Line
 edited (Err (unfit.ClassRange class)) = Err ClassRange
+
+-- the command of a filter, or why it is refused
+abbrev pub counted : Result meaning.Filter text.TextFault → Result command.Command refusal.Refusal
+counted (Ok filter) = Ok (Count filter)
+counted (Err _) = Err Line
 
 -- the command of a line that begins with `save` and goes on with these words: it has no others
 abbrev pub save_of : List (List ℕ) → Result command.Command refusal.Refusal
@@ -37,8 +43,9 @@ save_of (word ∷ others) = Err Line
 unfoldable pub command_of_words : List (List ℕ) → ℕ → Result command.Command refusal.Refusal
 command_of_words [] format = Err Line
 command_of_words (word ∷ others) format =
-    if bytes_eq word (codes "view") then viewed (view_of others)
+    if bytes_eq word (codes "view") then viewed format (view_of others)
     else if bytes_eq word (codes "edit") then edited (edit_of (word ∷ others) format)
+    else if bytes_eq word (codes "count") then counted (filter_of others)
     else if bytes_eq word (codes "save") then save_of others
     else Err Line
 
@@ -46,18 +53,16 @@ command_of_words (word ∷ others) format =
 unfoldable pub command_of : List ℕ → ℕ → Result command.Command refusal.Refusal
 command_of line format = command_of_words (words line) format
 
--- an edit of a command has a class that a point format has room for
+-- a point format has what a command needs: red, green and blue for a view that shows them, and room for the class of
+-- an edit
 abbrev pub FitsFormat : ℕ → command.Command → Type 0
+FitsFormat format (View view) = picture.can_colour format view.colouring ≡ true
 FitsFormat format (Edit e) = e.to ≤ meaning.top_class format
 FitsFormat format _ = Unit
-
--- a view of a command is one of all records by class
-abbrev pub IsByClass : command.Command → Type 0
-IsByClass (View view) = view ≡ picture.by_class view.camera
-IsByClass _ = Unit
 
 -- the code that answers a refused line
 abbrev pub refusal_code : refusal.Refusal → ℕ
 refusal_code Line = 1
 refusal_code (Limit _) = 2
+refusal_code NoColour = 3
 refusal_code ClassRange = 4

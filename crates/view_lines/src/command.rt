@@ -1,3 +1,4 @@
+use class_bits::Filter;
 use edit_ops::Edit;
 use view_text::ViewSpec;
 
@@ -8,6 +9,8 @@ pub enum Command {
     View(ViewSpec),
     /// Another class for the records of some classes in a box.
     Edit(Edit),
+    /// How many records pass.
+    Count(Filter),
     /// The survey as a file.
     Save,
 }

@@ -4,6 +4,8 @@
 mod command;
 mod reading;
 mod refusal;
+#[cfg(test)]
+mod tests;
 
 pub use command::Command;
 pub use reading::read_command;

@@ -6,22 +6,26 @@ use int_camera::CameraLimit;
 /// Why a line of a session is refused.
 #[derive(Clone, Copy, Debug, PartialEq, Eq)]
 pub enum Refusal {
-    /// The line isn't one of the commands, or it asks for a view that isn't drawn so far.
+    /// The line isn't one of the commands.
     Line,
     /// This is the first number of the view's camera that is out of its range.
     Limit(CameraLimit),
+    /// The view shows red, green and blue, which records of the survey's point data record format
+    /// don't have.
+    NoColour,
     /// The edit's new class is above the greatest class of the survey's point data record format.
     ClassRange,
 }
 
 impl Refusal {
-    /// The code that answers a refused line: 1, 2 or 4 in the order of the variants.
+    /// The code that answers a refused line: 1 to 4 in the order of the variants.
     pub fn code(&self) -> u8
         ensures { result ≡ refusal_code self.now }
     {
         match self {
             Refusal::Line => 1,
             Refusal::Limit(_) => 2,
+            Refusal::NoColour => 3,
             Refusal::ClassRange => 4,
         }
     }

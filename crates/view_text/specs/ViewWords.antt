@@ -1,5 +1,6 @@
--- The words of a view: `KIND W H EX EY EZ RX RY RZ DX DY DZ FX FY FZ K T NEAR FAR COLOUR CLASSES WITHHELD`.
-use Rattle.std.specs.Prelude.{ℕ, ◌==◌, ◌&&◌, nat_le, ℤ, pos, Bool, true, false, List, map, codes, Option, Some, None, is_some, unwrap_or, Result, Ok, Err, if◌then◌else◌}
+-- The words of a view, `KIND W H EX EY EZ RX RY RZ DX DY DZ FX FY FZ K T NEAR FAR COLOUR CLASSES WITHHELD`, of which
+-- the last two are the words of a filter.
+use Rattle.std.specs.Prelude.{ℕ, ◌+◌, ◌-◌, ◌==◌, nat_le, ℤ, pos, Bool, true, false, List, map, codes, Option, Some, None, is_some, unwrap_or, Result, Ok, Err, if◌then◌else◌}
 use Rattle.std.specs.List.{range_with_len}
 use Rattle.std.specs.Option.{option_map_or}
 use Rattle.std.specs.Str.{bytes_eq}
@@ -7,16 +8,18 @@ use Rattle.view_base.specs.declared.colour.Colouring.{Colouring}
 use Rattle.view_base.specs.declared.colour.Colouring.TheVariants.{Class, Rgb16, Rgb8, Intensity}
 use Rattle.view_base.specs.Text.{number}
 use Rattle.view_base.specs.Fitting.{word_at, misfit}
-use Rattle.view_meaning.specs.Camera.{orthographic}
-use Rattle.view_meaning.specs.Picture.{View, by_class}
+use Rattle.view_meaning.specs.Classes.{Filter, all_classes}
+use Rattle.view_meaning.specs.Picture.{View}
 use Rattle.class_bits.specs.ClassSet.{class_list}
-use Rattle.int_camera.specs.Limits.{first_outside, lens_of}
+use Rattle.int_camera.specs.declared.numbers.Kind.{Kind}
+use Rattle.int_camera.specs.declared.numbers.Kind.TheVariants.{Ortho, Persp}
+use Rattle.int_camera.specs.Limits.{first_outside, lens_of, projection_of}
 use Rattle.view_text.specs.declared.fault.TextFault.{TextFault}
-use Rattle.view_text.specs.declared.fault.TextFault.TheVariants.{Line, NotYet, Limit}
+use Rattle.view_text.specs.declared.fault.TextFault.TheVariants.{Line, Limit}
 
--- whether a camera is parallel to its forward vector, by the word for its projection, or none
-unfoldable pub is_parallel : List ℕ → Option Bool
-is_parallel word = if bytes_eq word (codes "ortho") then Some true else if bytes_eq word (codes "persp") then Some false else None
+-- the kind of camera that a word names, or none
+unfoldable pub kind : List ℕ → Option Kind
+kind word = if bytes_eq word (codes "ortho") then Some Ortho else if bytes_eq word (codes "persp") then Some Persp else None
 
 -- the colouring that a word names, or none
 unfoldable pub colouring : List ℕ → Option Colouring
@@ -28,41 +31,60 @@ colouring word =
 unfoldable pub hides : List ℕ → Option Bool
 hides word = if bytes_eq word (codes "show") then Some false else if bytes_eq word (codes "hide") then Some true else None
 
--- whether a word fits this place of a view: a projection, eighteen numbers, a colouring, a class list, and what becomes
--- of withheld records
+-- whether a word fits this place of a filter: a class list, and what becomes of withheld records
+unfoldable pub fits_filter : ℕ → List ℕ → Bool
+fits_filter place word =
+    if place == 0 then is_some (class_list word) else if place == 1 then is_some (hides word) else false
+
+-- whether a word fits this place of a view: a kind of camera, eighteen numbers, a colouring, and the words of a filter
 unfoldable pub fits : ℕ → List ℕ → Bool
 fits place word =
-    if place == 0 then is_some (is_parallel word)
+    if place == 0 then is_some (kind word)
     else if nat_le place 18 then is_some (number word)
     else if place == 19 then is_some (colouring word)
-    else if place == 20 then is_some (class_list word)
-    else if place == 21 then is_some (hides word)
-    else false
+    else fits_filter (place - 20) word
+
+-- a filter has two words
+abbrev pub is_pair : ℕ → Bool
+is_pair count = count == 2
 
 -- a view has twenty-two words
 abbrev pub is_whole : ℕ → Bool
 is_whole count = count == 22
 
--- whether the words of a view are ones that are drawn so far: through an orthographic camera, by class, of all classes
--- by the word `all`, with withheld records shown
-abbrev pub is_built : List (List ℕ) → Bool
-is_built ws =
-    bytes_eq (word_at ws 0) (codes "ortho") && bytes_eq (word_at ws 19) (codes "class")
-    && bytes_eq (word_at ws 20) (codes "all") && bytes_eq (word_at ws 21) (codes "show")
+-- the filter that the words from a place on describe, where they fit
+unfoldable pub filter_at : List (List ℕ) → ℕ → Filter
+filter_at ws place = record {
+  classes = unwrap_or (class_list (word_at ws place)) all_classes;
+  hide_withheld = unwrap_or (hides (word_at ws (place + 1))) false;
+}
+
+-- the kind of camera in the words of a view, where they fit
+unfoldable pub camera_kind : List (List ℕ) → Kind
+camera_kind ws = unwrap_or (kind (word_at ws 0)) Ortho
 
 -- the eighteen numbers of a camera in the words of a view
 unfoldable pub camera_numbers : List (List ℕ) → List ℤ
 camera_numbers ws = map (λ place. unwrap_or (number (word_at ws place)) (pos 0)) (range_with_len 1 18)
 
--- the view of all records by class through the camera that numbers describe, or the first that is out of its range
-abbrev pub view_through : List ℤ → Result View TextFault
-view_through n = option_map_or (λ limit. Err (Limit limit)) (first_outside orthographic n) (Ok (by_class (lens_of orthographic n)))
+-- the colouring in the words of a view, where they fit
+unfoldable pub colouring_in : List (List ℕ) → Colouring
+colouring_in ws = unwrap_or (colouring (word_at ws 19)) Class
 
--- the view of words that fit, by whether it is drawn so far and by its camera's numbers, or why it can't be drawn
-abbrev pub view_by : Bool → List ℤ → Result View TextFault
-view_by built n = if built then view_through n else Err NotYet
+-- the view of a camera's kind and numbers, a colouring and a filter, or the first number that is out of its range
+abbrev pub view_through : Kind → List ℤ → Colouring → Filter → Result View TextFault
+view_through kind n colouring filter =
+    option_map_or (λ limit. Err (Limit limit)) (first_outside (projection_of kind) n)
+    (Ok (record { camera = lens_of (projection_of kind) n; colouring = colouring; filter = filter }))
 
--- the view of words, or why it is none: first a word that doesn't fit, then one that isn't drawn so far, then a camera
--- number out of its range
+-- the view of words that fit, or the first camera number that is out of its range
+abbrev pub fitting_view : List (List ℕ) → Result View TextFault
+fitting_view ws = view_through (camera_kind ws) (camera_numbers ws) (colouring_in ws) (filter_at ws 20)
+
+-- the view of words, or why it is none: first a word that doesn't fit, then a camera number out of its range
 unfoldable pub view_of : List (List ℕ) → Result View TextFault
-view_of ws = option_map_or (λ at. Err (Line at)) (misfit fits is_whole ws) (view_by (is_built ws) (camera_numbers ws))
+view_of ws = option_map_or (λ at. Err (Line at)) (misfit fits is_whole ws) (fitting_view ws)
+
+-- the filter of words, or the first that doesn't fit
+unfoldable pub filter_of : List (List ℕ) → Result Filter TextFault
+filter_of ws = option_map_or (λ at. Err (Line at)) (misfit fits_filter is_pair ws) (Ok (filter_at ws 0))

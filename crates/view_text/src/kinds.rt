@@ -1,24 +1,25 @@
-ghost use Rattle.view_text.specs.ViewWords.{is_parallel, colouring, hides};
+ghost use Rattle.view_text.specs.ViewWords.{kind, colouring, hides};
 
+use int_camera::Kind;
 use view_base::{Colouring, WordKind};
 
-/// Words that name a projection: whether it is parallel to the camera's forward vector.
-pub(crate) struct ProjectionWord;
+/// Words that name a kind of camera.
+pub(crate) struct CameraWord;
 
-#[tactic(auto, unfolding(crate::specs::ViewWords::is_parallel))]
-impl WordKind for ProjectionWord {
-    type Value = bool;
+#[tactic(auto, unfolding(crate::specs::ViewWords::kind))]
+impl WordKind for CameraWord {
+    type Value = Kind;
 
-    ghost value = { is_parallel };
+    ghost value = { kind };
 
-    ghost Keeps = { λ parallel. Unit {0} };
+    ghost Keeps = { λ kind. Unit {0} };
 
-    fn read(word: &[u8]) -> Option<bool> {
+    fn read(word: &[u8]) -> Option<Kind> {
         if word == b"ortho".as_slice() {
-            return Some(true);
+            return Some(Kind::Ortho);
         }
         if word == b"persp".as_slice() {
-            return Some(false);
+            return Some(Kind::Persp);
         }
         None
     }

@@ -1,13 +1,13 @@
-//! The words that say what a picture is of.
+//! The words that say what a picture is of, and which records a count counts.
 #![tactic(auto)]
 
 mod fault;
-mod fitting;
 mod kinds;
 mod reading;
+#[cfg(test)]
+mod tests;
 mod view_spec;
 
 pub use fault::TextFault;
-pub use fitting::fits_view;
-pub use reading::{read_view, read_view_from};
+pub use reading::{read_filter, read_view, read_view_from};
 pub use view_spec::ViewSpec;

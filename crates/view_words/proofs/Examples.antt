@@ -4,7 +4,7 @@ use Rattle.std.specs.Prelude.{codes}
 use Rattle.std.specs.List.{range_with_len}
 use Rattle.view_base.specs.Text.{number, digits}
 use Rattle.class_bits.specs.ClassSet.{item_range, class_list}
-use Rattle.view_text.specs.ViewWords.{is_parallel, colouring, hides, fits}
+use Rattle.view_text.specs.ViewWords.{kind, colouring, hides, fits, fits_filter}
 use Rattle.view_words.specs.declared.row.Row.TheVariants.{Draw}
 use Rattle.view_base.specs.Fitting.{misfit}
 use Rattle.view_words.specs.CommandLine.{all_rows, kind_at, is_taken, is_refused, badword_in, badword}
@@ -112,17 +112,17 @@ drawing =
     ∷ codes "10" ∷ codes "rgb8" ∷ []
 
 a_whole_draw : badword all_rows (drawing ++ codes "3,1-2" ∷ codes "hide" ∷ []) ≡ None
-unfolding number digits item_range class_list is_parallel colouring hides fits kind_at is_taken is_refused misfit badword_in badword
+unfolding number digits item_range class_list kind colouring hides fits fits_filter kind_at is_taken is_refused misfit badword_in badword
 a_whole_draw = refl
 
 a_word_too_many : badword all_rows (drawing ++ codes "all" ∷ codes "show" ∷ codes "x" ∷ []) ≡ Some 26
-unfolding number digits item_range class_list is_parallel colouring hides fits kind_at is_taken is_refused misfit badword_in badword
+unfolding number digits item_range class_list kind colouring hides fits fits_filter kind_at is_taken is_refused misfit badword_in badword
 a_word_too_many = refl
 
 a_word_too_few : badword all_rows (drawing ++ codes "all" ∷ []) ≡ Some 25
-unfolding number digits item_range class_list is_parallel colouring hides fits kind_at is_taken is_refused misfit badword_in badword
+unfolding number digits item_range class_list kind colouring hides fits fits_filter kind_at is_taken is_refused misfit badword_in badword
 a_word_too_few = refl
 
 an_empty_view_word : badword all_rows (drawing ++ [] ∷ codes "show" ∷ []) ≡ Some 24
-unfolding number digits item_range class_list is_parallel colouring hides fits kind_at is_taken is_refused misfit badword_in badword
+unfolding number digits item_range class_list kind colouring hides fits fits_filter kind_at is_taken is_refused misfit badword_in badword
 an_empty_view_word = refl

@@ -4,3 +4,4 @@ pub mod Refusals
 pub mod Lines
 pub mod Names
 pub mod RowNames
+pub mod ViewPart

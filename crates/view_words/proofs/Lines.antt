@@ -7,20 +7,10 @@ use Rattle.std.proofs.Math.Seq.{take-length}
 use Rattle.std.specs.Prelude.{String, string_bytes, ◌==◌, ◌%◌, not, nat_le, ◌&&◌, ◌^◌, is_none, if◌then◌else◌}
 use Rattle.view_base.specs.Text.{number}
 use Rattle.view_base.specs.Fitting.{word_at}
-use Rattle.view_base.specs.Fitting.{misfit}
-use Rattle.view_base.proofs.Fitting.{misfit-none}
-use Rattle.view_meaning.specs.Camera.{orthographic}
-use Rattle.view_meaning.specs.Picture.{by_class}
-use Rattle.int_camera.specs.declared.numbers.CameraLimit.{CameraLimit}
-use Rattle.int_camera.specs.Limits.{first_outside, lens_of}
-use Rattle.view_text.specs.declared.fault.TextFault.TheVariants.{Limit}
-use Rattle.view_text.specs.declared.fault.TextFault.TheVariants as text
-use Rattle.view_text.specs.ViewWords as view
-use Rattle.view_text.specs.ViewWords.{fits, is_built, camera_numbers, view_by, view_of}
 use Rattle.view_words.specs.declared.row.Row.{Row}
 use Rattle.view_words.specs.declared.row.Row.TheVariants.{Draw, Info, Trial, Serve}
 use Rattle.view_words.specs.declared.kind.WordKind.{WordKind}
-use Rattle.view_words.specs.declared.kind.WordKind.TheVariants.{Workers, Start, Records, ViewWord}
+use Rattle.view_words.specs.declared.kind.WordKind.TheVariants.{Workers, Start, Records}
 use Rattle.view_words.specs.CommandLine.{texts, kind_at, within, number_within, is_refused_as, is_refused, is_whole, least_words, IsLine, workers_place, view_words}
 use Rattle.view_words.proofs.Refusals.{is_refused-kind, unrefused, whole, unrefused_few, line_begins}
 
@@ -123,38 +113,6 @@ within_is least greatest n (Some (pos m)) is = two (nat_le least m && nat_le m g
 -- a number within limits is the word's number, and within them
 pub number_within-is : (least greatest n : ℕ) (word : List ℕ) → number_within least greatest word ≡ Some n → (number word ≡ Some (pos n)) × (least ≤ n) × (n ≤ greatest)
 number_within-is least greatest n word is = within_is least greatest n (number word) is
-
-view_place : (k : ℕ) → k < 22 → kind_at Draw (4 + k) ≡ ViewWord k
-unfolding kind_at
-view_place k within = grind (arith, nat_tests)
-
-not_false : (b : Bool) → not b ≡ false → b ≡ true
-not_false true is = refl
-not_false false is = absurd (cc is)
-
--- each view word of a `draw` fits its place
-pub draw_fits : (ws : List (List ℕ)) (k : ℕ) → IsLine Draw ws → k < 22 → fits k (word_at ws (4 + k)) ≡ true
-draw_fits ws k line within = not_false (fits k (word_at ws (4 + k))) (line_at Draw ws (4 + k) (ViewWord k) line (omega (arith, length-draw ws line)) (view_place k within))
-
--- the view words of a `draw` are those of a view
-misfit-draw : (ws : List (List ℕ)) → IsLine Draw ws → misfit fits view.is_whole (view_words ws) ≡ None
-misfit-draw ws line =
-    let count : length (drop 4 ws) ≡ 22 = omega (arith, length-drop 4 ws, length-draw ws line) in
-    misfit-none fits view.is_whole (drop 4 ws) (λ k within. subst (λ (word : List ℕ). fits k word ≡ true) (sym (get_or-drop 4 ws k [])) (draw_fits ws k line (omega arith))) (ap view.is_whole count)
-
--- the view of a `draw`: each of its words fits
-pub view_of-draw : (ws : List (List ℕ)) → IsLine Draw ws → view_of (view_words ws) ≡ view_by (is_built (view_words ws)) (camera_numbers (view_words ws))
-unfolding view_of
-view_of-draw ws line = rw (misfit-draw ws line) refl
-
-view_through-words : (o : Option CameraLimit) (n : List ℤ) (at : ℕ) → option_map_or (λ limit. Err (Limit limit)) o (Ok (by_class (lens_of orthographic n))) ≡ Err (text.Line at) → ⊥
-view_through-words None n at is = absurd (cc is)
-view_through-words (Some limit) n at is = absurd (cc is)
-
--- words that fit are refused for none of them
-pub view_by-words : (built : Bool) (n : List ℤ) (at : ℕ) → view_by built n ≡ Err (text.Line at) → ⊥
-view_by-words true n at is = view_through-words (first_outside orthographic n) n at is
-view_by-words false n at is = absurd (cc is)
 
 -- the texts of the words from place 4 on
 pub texts-from : {Y : Type 0} (words : List (String Y)) → 4 ≤ length words → map string_bytes (take (length words - 4) (drop 4 words)) ≡ view_words (texts words)

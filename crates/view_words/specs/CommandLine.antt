@@ -3,13 +3,16 @@
 --   info SURVEY OUT
 --   trial START N WORKERS OUT
 --   serve SURVEY WORKERS JOURNAL IN1 OUT1 .., with 1 to 16 pairs
-use Rattle.std.specs.Prelude.{◌≡◌, ℕ, ◌-◌, ◌%◌, ◌^◌, ◌==◌, ◌&&◌, ◌||◌, not, nat_le, ℤ, pos, negsuc, Bool, true, false, List, [], ◌∷◌, map, length, drop, String, string_bytes, codes, Option, Some, None, is_none, if◌then◌else◌}
+use Rattle.std.specs.Prelude.{◌≡◌, ℕ, ◌-◌, ◌%◌, ◌^◌, ◌==◌, ◌&&◌, ◌||◌, not, nat_le, ℤ, pos, negsuc, Bool, true, false, List, [], ◌∷◌, map, length, drop, String, string_bytes, codes, Option, Some, None, is_none, Result, Err, if◌then◌else◌}
 use Rattle.std.specs.List.{find, list_any, range_with_len}
 use Rattle.std.specs.Option.{option_map_or}
 use Rattle.std.specs.Str.{bytes_eq}
 use Rattle.view_base.specs.Text.{number}
 use Rattle.view_base.specs.Fitting.{word_at, misfit}
-use Rattle.view_text.specs.ViewWords.{fits}
+use Rattle.view_meaning.specs.Picture.{View}
+use Rattle.view_text.specs.declared.fault.TextFault.{TextFault}
+use Rattle.view_text.specs.declared.fault.TextFault.TheVariants.{Line}
+use Rattle.view_text.specs.ViewWords.{fits, fitting_view}
 use Rattle.view_words.specs.declared.row.Row.{Row}
 use Rattle.view_words.specs.declared.row.Row.TheVariants.{Draw, Info, Trial, Serve}
 use Rattle.view_words.specs.declared.kind.WordKind.{WordKind}
@@ -128,3 +131,12 @@ workers_place _ = 3
 -- the words of a view in those of a `draw`
 abbrev pub view_words : List (List ℕ) → List (List ℕ)
 view_words ws = drop 4 ws
+
+-- the view that words beginning with `draw` ask for, or why there is none: first a refused word, then a camera number
+-- out of its range
+unfoldable pub drawn_view : List (List ℕ) → Result View TextFault
+drawn_view ws = option_map_or (λ at. Err (Line at)) (badword_in Draw ws) (fitting_view (view_words ws))
+
+-- the view that the words of a command line ask for as those of a `draw`, or why there is none
+unfoldable pub draw_of : List (List ℕ) → Result View TextFault
+draw_of ws = option_map_or (λ at. Err (Line at)) (badword (Draw ∷ []) ws) (fitting_view (view_words ws))

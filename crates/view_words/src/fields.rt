@@ -1,14 +1,10 @@
-ghost use Rattle.std.specs.Prelude.{◌≡◌, ◌≢◌, ℕ, ◌+◌, ◌*◌, ◌^◌, ◌<◌, ◌≤◌, pos, length, Some, IfOk, IfErr};
+ghost use Rattle.std.specs.Prelude.{◌≡◌, ◌≢◌, ◌+◌, ◌*◌, ◌^◌, ◌<◌, ◌≤◌, pos, length, Some};
 ghost use Rattle.view_base.specs.Text.{number};
 ghost use Rattle.view_base.specs.Fitting.{word_at};
-ghost use Rattle.view_meaning.specs.Picture.{by_class};
-ghost use Rattle.view_text.specs.ViewWords.{camera_numbers, is_built, view_by};
-ghost use Rattle.view_words.specs.CommandLine.{texts, IsLine, workers_place, view_words};
+ghost use Rattle.view_words.specs.CommandLine.{texts, IsLine, workers_place};
 
 use crate::refusing::{MAX_RECORDS, MAX_WORKERS, number_within};
 use crate::row::Row;
-use view_base::WordsOf;
-use view_text::{TextFault, ViewSpec, read_view_from};
 
 /// The text of the word at a place, from 0.
 pub fn text_at(words: &[String], at: usize) -> &str
@@ -65,17 +61,4 @@ pub fn pair_count(words: &[String]) -> u32
     ensures few { result ≤ 16 }
 {
     ((words.len() - 4) / 2) as u32
-}
-
-/// The view that the words of a `draw` ask for, or why it can't be drawn: `NotYet` where it isn't
-/// drawn so far, and `Limit` for any other whose camera has a number out of its range. Takes no
-/// memory.
-pub fn view_of_draw(words: &[String]) -> Result<ViewSpec, TextFault>
-    requires { IsLine Row.Draw (texts words.now) }
-    ensures view { let ws = view_words (texts words.now) in
-        result ≡ view_by (is_built ws) (camera_numbers ws) }
-    ensures built { IfOk result (λ v. v ≡ by_class v.camera) }
-    ensures line { IfErr result (λ fault. (at : ℕ) → fault ≡ TextFault.Line at → ⊥) }
-{
-    read_view_from(WordsOf::Separate(&words[4..]))
 }

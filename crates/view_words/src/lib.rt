@@ -7,7 +7,9 @@ mod kind;
 mod reading;
 mod refusing;
 mod row;
+#[cfg(test)]
+mod tests;
 
-pub use fields::{pair_count, records, start, text_at, view_of_draw, workers};
-pub use reading::{read_row, read_words};
-pub use row::Row;
+pub use fields::{pair_count, records, start, text_at, workers};
+pub use reading::{read_draw, read_row};
+pub use row::{Row, row_of};

@@ -1,17 +1,21 @@
-ghost use Rattle.std.specs.Prelude.{◌≡◌, ◌<◌, length};
-ghost use Rattle.view_words.specs.CommandLine.{texts, number_within, bars, barred, is_taken, is_refused_name, is_refused, is_whole, badword_in};
+ghost use Rattle.std.specs.Prelude.{◌≡◌, ◌≢◌, ℕ, ◌<◌, ◌≤◌, length, false, Some, IfSome, IfNone};
+ghost use Rattle.view_words.specs.CommandLine.{texts, number_within, bars, barred, is_taken, is_refused_name, is_refused, is_whole, badword_in, drawn_view};
+ghost use Rattle.view_words.specs.Parts.{IsBeforeView, refused_at};
 
 use crate::fields::text_at;
 use crate::kind::{WordKind, kind_at};
 use crate::row::Row;
-use view_base::read_number;
-use view_text::fits_view;
+use view_base::{WordsOf, read_number};
+use view_text::{TextFault, ViewSpec, read_view_from};
 
 /// The greatest number of workers.
 pub(crate) const MAX_WORKERS: u64 = 64;
 
 /// The greatest number of records of a trial, 2^23.
 pub(crate) const MAX_RECORDS: u64 = 8388608;
+
+/// The place of the first word of a view in a `draw`.
+const VIEW: usize = 4;
 
 /// The number that a word is, where it is one from `least` to `greatest`.
 pub(crate) fn number_within(least: u64, greatest: u64, word: &str) -> Option<u64>
@@ -74,9 +78,10 @@ fn is_refused_name(row: Row, words: &[String], at: usize) -> bool
     text_at(words, at).is_empty() || is_taken(row, words, at)
 }
 
-/// Whether the word at a place is refused.
+/// Whether the word at a place, which is none of a view's, is refused.
 fn is_refused(row: Row, words: &[String], at: usize) -> bool
-    requires { at < length words.now }
+    requires at { at < length words.now }
+    requires before_view { IsBeforeView row at }
     ensures { result ≡ is_refused row (texts words.now) at }
 {
     let word = text_at(words, at);
@@ -87,7 +92,7 @@ fn is_refused(row: Row, words: &[String], at: usize) -> bool
         WordKind::Workers => number_within(1, MAX_WORKERS, word).is_none(),
         WordKind::Start => number_within(0, u64::MAX, word).is_none(),
         WordKind::Records => number_within(0, MAX_RECORDS, word).is_none(),
-        WordKind::ViewWord(place) => !fits_view(place as usize, word.as_bytes()),
+        WordKind::ViewWord(_) => unreachable!(),
         WordKind::NoWord => true,
     }
 }
@@ -104,18 +109,80 @@ fn is_whole(row: Row, count: usize) -> bool
     }
 }
 
-/// The first word that a row refuses, or the number of words where more are needed.
-pub(crate) fn badword_in(row: Row, words: &[String]) -> Option<u32>
-    ensures { result ≡ badword_in row (texts words.now) }
+/// The first refused word of a row among those before a place, none of which is a view's.
+fn first_refused(row: Row, words: &[String], end: usize) -> Option<u32>
+    requires end { end ≤ length words.now }
+    requires before_view { (k : ℕ) → k < end → IsBeforeView row k }
+    ensures some { IfSome result (λ at. badword_in row (texts words.now) ≡ Some at) }
+    ensures none { IfNone result ((k : ℕ) → k < end → is_refused row (texts words.now) k ≡ false) }
+    ensures few { IfNone result (end ≤ 36) }
 {
-    for at in 0..words.len() {
+    for at in 0..end {
         if is_refused(row, words, at) {
             return Some(at as u32);
         }
+    }
+    None
+}
+
+/// The view of words that begin with `draw`. `Line` names the first word that is refused, or the
+/// number of words where more are needed, and `Limit` the first camera number out of its range.
+pub(crate) fn view_in(words: &[String]) -> Result<ViewSpec, TextFault>
+    ensures { result ≡ drawn_view (texts words.now) }
+{
+    if let Some(at) = first_refused(Row::Draw, words, words.len().min(VIEW)) {
+        return Err(TextFault::Line { at });
+    }
+    if words.len() < VIEW {
+        return Err(TextFault::Line {
+            at: words.len() as u32,
+        });
+    }
+    match read_view_from(WordsOf::Separate(&words[VIEW..])) {
+        Ok(view) => Ok(view),
+        Err(fault) => match fault {
+            TextFault::Line { at } => Err(TextFault::Line {
+                at: VIEW as u32 + at,
+            }),
+            TextFault::Limit(limit) => Err(TextFault::Limit(limit)),
+        },
+    }
+}
+
+/// The first refused word of a row without a view, or the number of words where more are needed.
+fn badword_without_view(row: Row, words: &[String]) -> Option<u32>
+    requires { row ≢ Row.Draw }
+    ensures { result ≡ badword_in row (texts words.now) }
+{
+    if let Some(at) = first_refused(row, words, words.len()) {
+        return Some(at);
     }
     if is_whole(row, words.len()) {
         None
     } else {
         Some(words.len() as u32)
+    }
+}
+
+/// The first word that a row refuses, or the number of words where more are needed.
+pub(crate) fn badword_in(row: Row, words: &[String]) -> Option<u32>
+    ensures { result ≡ badword_in row (texts words.now) }
+{
+    match row {
+        Row::Draw => refused_at(&view_in(words)),
+        _ => badword_without_view(row, words),
+    }
+}
+
+/// The refused word of what was read as a view, or `None`.
+fn refused_at(read: &Result<ViewSpec, TextFault>) -> Option<u32>
+    ensures { result ≡ refused_at read.now }
+{
+    match read {
+        Ok(_) => None,
+        Err(fault) => match fault {
+            TextFault::Line { at } => Some(*at),
+            TextFault::Limit(_) => None,
+        },
     }
 }

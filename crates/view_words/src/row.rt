@@ -39,8 +39,8 @@ pub(crate) fn begins(row: Row, words: &[String]) -> bool
     }
 }
 
-/// The row whose command is the first word, or `None` where that is no command.
-pub(crate) fn row_of(words: &[String]) -> Option<Row>
+/// The row whose command is the first word, or `None` where that is no command. Takes no memory.
+pub fn row_of(words: &[String]) -> Option<Row>
     ensures { result ≡ row_in all_rows (texts words.now) }
 {
     if begins(Row::Draw, words) {

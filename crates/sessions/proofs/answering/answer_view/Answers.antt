@@ -1,8 +1,7 @@
 use Rattle.std.proofs.Common.{◌∙◌, ◌++◌, List, ℕ, ap, refl}
 use Rattle.std.specs.Arc.{arc_value}
 use Rattle.std.specs.Prelude.{codes}
-use Rattle.view_meaning.specs.Picture.{View as PictureView, can_colour}
-use Rattle.view_meaning.specs.Survey.{format_of}
+use Rattle.view_meaning.specs.Picture.{View as PictureView}
 use Rattle.sessions.specs.Replies.{head}
 use Rattle.sessions.proofs.Answered.{kept-records, picture-size, answered_view}
 use Rattle.sessions.proofs.answering.answer_view.Goals as goal
@@ -17,6 +16,3 @@ returns-clause-answered g c =
     (c.append_head.ensures ∙ ap (λ (l : List ℕ). l ++ head (codes "PICTURE") c.make_room.new.self.newest c.ppm_length-length.result) (c.reserve.ensures.same ∙ c.new-out.ensures))
     (picture-size _ _ _ _ _ _ (c.width.ensures.value ∙ ap (λ (v : PictureView). v.camera.width) c.view.view_is) (c.height.ensures.value ∙ ap (λ (v : PictureView). v.camera.height) c.view.view_is) c.ppm_length-length.ensures c.in_ok-picture.ensures.size)
     (c.as_slice.ensures ∙ c.in_ok-picture.ensures.drawn) c.give_all.ensures.given c.give_all.ensures.part
-
-pub picture-requires-clause-can_colour : goal.picture-requires-clause-can_colour
-picture-requires-clause-can_colour g c = λ lives outlives. ap (λ (v : PictureView). can_colour (format_of (arc_value c.args.scene.now.survey)) v.colouring) c.requires.by_class

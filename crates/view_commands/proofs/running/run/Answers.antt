@@ -1,14 +1,12 @@
-use Rattle.std.proofs.Common.{rules}
+use Rattle.std.proofs.Common.{◌∙◌, sym}
 use Rattle.view_words.specs.CommandLine.{texts}
-use Rattle.view_words.proofs.Refusals.{badword-line}
-use Rattle.view_commands.proofs.Rows.{runs-line}
+use Rattle.view_commands.proofs.Counts.{same_said}
+use Rattle.view_commands.proofs.Rows.{runs-row, runs-none}
 use Rattle.view_commands.proofs.running.run.Goals as goal
 
-pub returns-in-Ok : goal.returns-in-Ok
-returns-in-Ok g c = runs-line _ _ _ (texts c.args.words.now) c.run_line.result c.in-Ok.row c.in-Ok.ensures.fits c.in-Ok.ensures.row c.run_line.ensures
+pub returns-in-Some : goal.returns-in-Some
+returns-in-Some g c = runs-row _ _ _ (texts c.args.words.now) c.run_row.result c.in-Some.row (sym c.row_of.ensures ∙ c.in-Some.is) c.run_row.ensures
 
-pub returns-in-Err : goal.returns-in-Err
-returns-in-Err g c = record {
-  refused = search rules;
-  line = λ row line. absurd (cc (badword-line row (texts c.args.words.now) line, c.in-Err.ensures.refused));
-}
+pub returns-in-None : goal.returns-in-None
+returns-in-None g c =
+    runs-none _ _ _ (texts c.args.words.now) c.only.result (sym c.row_of.ensures ∙ c.in-None.is) (record { status = c.only.ensures.status; untouched = same_said (g.D.Desk.says c.args.desk.now); told = c.only.ensures.told })

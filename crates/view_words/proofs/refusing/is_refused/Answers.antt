@@ -2,6 +2,7 @@ use Rattle.std.proofs.Common.{◌∙◌, sym, rules}
 use Rattle.view_words.specs.declared.kind.WordKind.TheVariants.{Command, ReadName, WrittenName, Workers, Start, Records, ViewWord, NoWord}
 use Rattle.view_words.specs.CommandLine.{texts}
 use Rattle.view_words.proofs.Refusals.{is_refused-kind}
+use Rattle.view_words.proofs.ViewPart.{view_word_before}
 use Rattle.view_words.proofs.refusing.is_refused.Goals as goal
 
 pub returns-in-Command : goal.returns-in-Command
@@ -22,9 +23,8 @@ pub returns-in-Records : goal.returns-in-Records
 returns-in-Records c =
     rw (is_refused-kind c.args.row (texts c.args.words.now) c.args.at Records (sym c.kind_at.ensures ∙ c.in-Records.is)) (search rules)
 
-pub returns-in-ViewWord : goal.returns-in-ViewWord
-returns-in-ViewWord c =
-    rw (is_refused-kind c.args.row (texts c.args.words.now) c.args.at (ViewWord c.in-ViewWord.place) (sym c.kind_at.ensures ∙ c.in-ViewWord.is)) (search rules)
+pub unreachable-requires : goal.unreachable-requires
+unreachable-requires c = view_word_before c.args.row c.args.at c.in-ViewWord.field-0 c.requires.before_view (sym c.kind_at.ensures ∙ c.in-ViewWord.is)
 
 pub returns-in-ReadName : goal.returns-in-ReadName
 returns-in-ReadName c =
