@@ -12,6 +12,7 @@ or scale, offset and bounds are read from the survey's header, and places are ma
     python3 examples/aim.py above W H --survey SURVEY [--at E N --width METRES]
     python3 examples/aim.py angle W H --survey SURVEY --down DEGREES --towards DEGREES
                                       [--at E N --width METRES [--height Z]]
+    python3 examples/aim.py persp W H --survey SURVEY --eye E N Z --look E N Z --angle DEGREES
 
 above   looks straight down, north at the top: the whole survey.
 south   stands in the south and looks north and down, 3 down for each 4 ahead: the whole survey.
@@ -19,6 +20,8 @@ round   looks straight down at what lies up to R file units from the place X Y, 
         and south of it.
 angle   looks so many degrees down from the horizon, 0 to 90, in a direction of the compass: towards
         0 is north and 90 east. At 90 degrees down that direction is at the top.
+persp   stands at a place and looks at another one, which is in the middle of the picture, with an angle
+        of view across its width, above 0 and below 180 degrees. What is farther is smaller.
 
 --at E N and --width put that place on the middle pixel, column W / 2 and row H / 2, and so many metres
 across the picture; --height says how high the place lies, without it amid the least and the greatest.
@@ -31,8 +34,8 @@ The words are 22, for the end of a `draw` line or after `view` in a session:
 
     ./hidrevca draw survey.las map.ppm 4 $(./hidrevca info survey.las - | python3 examples/aim.py above 1024 768)
 
-All cameras are orthographic: a pixel is a square of the same size everywhere. Where nothing of the
-survey's box is in view, a line on standard error says so.
+All cameras but persp are orthographic: a pixel is a square of the same size everywhere. Where nothing of
+the survey's box is in view, a line on standard error says so.
 """
 
 import math
@@ -41,8 +44,9 @@ import stat
 import sys
 from fractions import Fraction
 
+import perspective
 from header import read_header
-from metres import INT_MAX, INT_MIN, Grid, cross, decimal, dot
+from metres import INT_MAX, INT_MIN, Grid, at_least, corners_of, cross, decimal, dot
 from script_ends import Words, Wrong, read_text, run
 
 MOST_DEPTH = 2**32 - 2
@@ -55,11 +59,6 @@ LENGTH = 16384
 # right, down and forward of a picture: at right angles to each other and of one length
 ABOVE = ((1, 0, 0), (0, -1, 0), (0, 0, -1))
 SOUTH = ((5, 0, 0), (0, -3, -4), (0, 4, -3))
-
-
-def at_least(number, unit):
-    """The least whole number of units that reach a number."""
-    return -(-number // unit)
 
 
 def box_of(text):
@@ -98,14 +97,14 @@ def weights_of(scale):
     return [number / unit for number in scale], unit
 
 
-def whole_axes(axes, weights, length):
-    """The axes as whole numbers, weighed, and what their lengths were multiplied by."""
+def whole_axes(axes, weights, length, reach):
+    """The axes as whole numbers, weighed, and what their lengths were multiplied by. Reach is how long fractions get."""
     parts = [[part * weight for part, weight in zip(axis, weights)] for axis in axes]
     every = [part for axis in parts for part in axis]
     if all(isinstance(part, (int, Fraction)) for part in every) and max(map(abs, every)) <= MOST_PART:
         factor = Fraction(1)
     else:
-        factor = Fraction(LENGTH) / (length * max(map(abs, weights)))
+        factor = Fraction(reach) / (length * max(map(abs, weights)))
     whole = [[round(part * w * factor) if isinstance(part, int) else round(part * float(w * factor))
               for part, w in zip(axis, weights)] for axis in axes]
     if dot(whole[2], cross(whole[0], whole[1])) == 0:
@@ -117,10 +116,6 @@ def spread(low, high, axis, eye):
     """The least and the greatest dot of an axis with a place of the box, seen from the eye."""
     dots = [dot(axis, corner) - dot(axis, eye) for corner in corners_of(low, high)]
     return min(dots), max(dots)
-
-
-def corners_of(low, high):
-    return [(x, y, z) for x in (low[0], high[0]) for y in (low[1], high[1]) for z in (low[2], high[2])]
 
 
 def scale(least, greatest, pixels):
@@ -196,7 +191,7 @@ def say(text):
     print(f"aim.py: {text}", file=sys.stderr)
 
 
-FORMS = {"above": 2, "south": 2, "round": 5, "angle": 2}
+FORMS = {"above": 2, "south": 2, "round": 5, "angle": 2, "persp": 2}
 
 
 def read_words(args):
@@ -210,10 +205,13 @@ def read_words(args):
     parser.add_argument("--height", type=decimal, metavar="Z")
     parser.add_argument("--down", type=decimal, metavar="DEGREES")
     parser.add_argument("--towards", type=decimal, metavar="DEGREES")
+    parser.add_argument("--eye", nargs=3, type=decimal, metavar=("E", "N", "Z"))
+    parser.add_argument("--look", nargs=3, type=decimal, metavar=("E", "N", "Z"))
+    parser.add_argument("--angle", type=decimal, metavar="DEGREES")
     words = parser.parse_intermixed_args(args)
     words.form, *words.words = words.words or [""]
     if words.form not in FORMS:
-        parser.error("the first word is above, south, round or angle")
+        parser.error("the first word is above, south, round, angle or persp")
     count = FORMS[words.form]
     if len(words.words) - count not in (0, 3):
         parser.error(f"{words.form} takes {count} numbers, and then three words or none")
@@ -239,7 +237,7 @@ def misfit(words):
             return "R is 0 or more, and X and Y are numbers of the file"
     if (words.at is None) != (words.width is None) or words.height is not None and words.at is None:
         return "--at E N and --width METRES go together, and --height with them"
-    if words.at is not None and (not words.survey or words.form == "round"):
+    if words.at is not None and (not words.survey or words.form in ("round", "persp")):
         return "--at needs --survey, and is for above, south and angle"
     if words.width is not None and words.width <= 0:
         return "the width is above 0"
@@ -248,6 +246,16 @@ def misfit(words):
         return "angle takes --down and --towards, and no other form does"
     if words.form == "angle" and not 0 <= words.down <= 90:
         return "--down is 0 to 90 degrees"
+    return misfit_of_eye(words)
+
+
+def misfit_of_eye(words):
+    """What doesn't fit among the words of a perspective, and of the inputs."""
+    given = words.eye is not None, words.look is not None, words.angle is not None
+    if given != ((words.form == "persp"),) * 3 or words.form == "persp" and not words.survey:
+        return "persp takes --survey, --eye, --look and --angle, and no other form takes the last three"
+    if words.angle is not None and not 0 < words.angle < 180:
+        return "--angle is above 0 and below 180 degrees"
     if words.survey == "-" and words.info == "-":
         return "only one of --survey and --info is standard input"
     return None
@@ -267,12 +275,14 @@ def axes_of(words, grid):
     weights, unit = weights_of(grid.scale) if grid else ([1, 1, 1], 1)
     if words.form == "angle":
         axes, length = turned(words.down, words.towards), 1
+    elif words.form == "persp":
+        axes, length = perspective.axes(words.eye, words.look), 1
     else:
         axes, length = (SOUTH, 5) if words.form == "south" else (ABOVE, 1)
         if weights[0] != weights[1]:
             x, y = (float(number) for number in grid.scale[:2])
             say(f"a unit is {x!r} m in X and {y!r} m in Y: the vectors are weighed")
-    whole, factor = whole_axes(axes, weights, length)
+    whole, factor = whole_axes(axes, weights, length, MOST_PART if words.form == "persp" else LENGTH)
     return whole, factor * length / unit, max(1, round(factor * max(map(abs, weights))))
 
 
@@ -286,10 +296,8 @@ def centre_of(words, grid, low, high):
     return centre
 
 
-def main(args):
-    words = read_words(args)
-    grid, low, high = survey_of(words)
-    axes, per_metre, t = axes_of(words, grid)
+def camera_of(words, grid, low, high, whole, per_metre, t):
+    """The numbers of an orthographic camera."""
     aim_low, aim_high = low, high
     if words.form == "round":
         x, y, r = words.numbers[:3]
@@ -297,10 +305,24 @@ def main(args):
     size = words.numbers[-2:]
     # A pixel that is rounded up keeps the whole width in the picture.
     k = 0 if words.width is None else math.ceil(words.width * per_metre / size[0])
-    camera = aimed(aim_low, aim_high, axes, centre_of(words, grid, aim_low, aim_high), size, k, t)
-    if not is_in_view(low, high, camera):
+    return aimed(aim_low, aim_high, whole, centre_of(words, grid, aim_low, aim_high), size, k, t)
+
+
+def main(args):
+    words = read_words(args)
+    grid, low, high = survey_of(words)
+    whole, per_metre, t = axes_of(words, grid)
+    if words.form == "persp":
+        eye = [grid.nearest(axis, words.eye[axis]) for axis in range(3)]
+        size = words.numbers[-2:]
+        camera = perspective.aimed(low, high, whole, eye, size, perspective.focal(size[0], words.angle), t)
+        kind, is_seen = "persp", perspective.is_in_view(low, high, camera)
+    else:
+        camera = camera_of(words, grid, low, high, whole, per_metre, t)
+        kind, is_seen = "ortho", is_in_view(low, high, camera)
+    if not is_seen:
         say("nothing of the survey's box is in view")
-    print("ortho", *camera, *words.last)
+    print(kind, *camera, *words.last)
 
 
 if __name__ == "__main__":

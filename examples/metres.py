@@ -76,6 +76,16 @@ def span(axis, one, other):
     return clamped(low), clamped(high)
 
 
+def at_least(number, unit):
+    """The least whole number of units that reach a number."""
+    return -(-number // unit)
+
+
+def corners_of(low, high):
+    """The eight corners of a box."""
+    return [(x, y, z) for x in (low[0], high[0]) for y in (low[1], high[1]) for z in (low[2], high[2])]
+
+
 def dot(u, v):
     return sum(a * b for a, b in zip(u, v))
 

@@ -21,12 +21,13 @@ import sys
 
 from script_ends import Words, Wrong, open_bytes, read_bytes, run, write_bytes
 
-HEAD = re.compile(rb"((PICTURE|FILE) [0-9]{1,20} ([0-9]{1,10})|(EDITED) [0-9]{1,20} [0-9]{1,20}|(REFUSED) ([0-9]{1,3}))\n")
+HEAD = re.compile(rb"((PICTURE|FILE) [0-9]{1,20} ([0-9]{1,10})|(EDITED|COUNT) [0-9]{1,20} [0-9]{1,20}|(REFUSED) ([0-9]{1,3}))\n")
 MOST_BYTES = 2**30
-KINDS = ("PICTURE", "FILE", "EDITED", "REFUSED")
+KINDS = ("PICTURE", "FILE", "EDITED", "COUNT", "REFUSED")
 CODES = {
-    1: "not a line of the grammar, or a view that isn't built",
+    1: "not a line of the grammar",
     2: "a camera number is out of its range",
+    3: "the format has no RGB",
     4: "the class is above the format's greatest",
 }
 

@@ -292,12 +292,36 @@ class Words(Launcher):
         ):
             self.assertEqual(self.refused(["info", name, "o"], text, status), said)
 
+    def test_each_view_is_known(self):
+        # Where the words look right the program is in the launcher's place, and nothing further is said.
+        for kind, focal, near, colour, classes, withheld, looks_right in (
+            ("persp", "1048576", "1", "rgb8", "2,5-6,007", "hide", True),
+            ("ortho", "1099511627776", "0", "intensity", "0-255", "show", True),
+            ("persp", "1048577", "1", "class", "all", "show", False),
+            ("persp", "1", "0", "class", "all", "show", False),
+            ("ortho", "1", "0", "class", "6-5", "show", False),
+            ("ortho", "1", "0", "class", "256", "show", False),
+            ("ortho", "1", "0", "class", "3,,4", "show", False),
+        ):
+            words = ["draw", "survey", "o", *CAMERA[:-3], colour, classes, withheld]
+            words[4], words[19], words[21] = kind, focal, near
+            further = self.refused(words, "word 26 is not expected", 2)
+            self.assertEqual(further, b"" if looks_right else b"word 26 is missing\n", words)
+
+    def test_a_colouring_that_the_format_has_not(self):
+        with open(os.path.join(self.root, "colourless"), "wb") as file:
+            file.write(bytes(104) + b"\6")
+        words = ["draw", "colourless", "o", *CAMERA[:-3], "rgb16", "all", "show"]
+        further = self.refused(words, "format 6 has no colour", 4)
+        self.assertEqual(further, b"word 23 is 'rgb16': point data record format 6 has no RGB\n")
+        # Each format has intensity.
+        words[23] = "intensity"
+        self.assertEqual(self.refused(words, "format 6 has no colour", 4), b"")
+
     def test_what_is_not_built(self):
         for words, said in (
             (["trial", "1", "2", "3", "o"], "word 0 is 'trial', which isn't built"),
             (["serve", "survey", "1", "j", "i", "o", "i2", "o2"], "word 6 is 'i2': more than one pair of IN and OUT isn't built"),
-            (["draw", "survey", "o", "1", "persp", *CAMERA[2:]], "word 4 is 'persp', where ortho alone is built"),
-            (["draw", "survey", "o", *CAMERA[:-3], "class", "2,5", "show"], "word 24 is '2,5', where all alone is built"),
         ):
             self.assertEqual(self.refused(words, "not built yet", 12).decode(), said + "\n")
 

@@ -215,8 +215,8 @@ class Aims(Files):
 
     def test_words_that_do_not_fit_are_named_in_one_line(self):
         for words, told in (
-            ((), "the first word is above, south, round or angle"),
-            (("below", 9, 9), "the first word is above, south, round or angle"),
+            ((), "the first word is above, south, round, angle or persp"),
+            (("below", 9, 9), "the first word is above, south, round, angle or persp"),
             (("above", 960), "above takes 2 numbers, and then three words or none"),
             (("above", 960, "x"), "the first 2 words after above are whole numbers"),
             (("above", 1, 680), "W and H are 2 to 4096, and at most 9437184 pixels in all"),

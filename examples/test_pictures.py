@@ -200,7 +200,7 @@ class WorldFiles(unittest.TestCase):
                 head(scales)
 
 
-SCRIPT = b"\nedit 0 0 0 9 9 9 all 32\n \t\r\nview x\nsave"
+SCRIPT = b"\nedit 0 0 0 9 9 9 all 32\n \t\r\nview x\nsave\ncount all show"
 REPLIES = b"REFUSED 4\nPICTURE 0 14\n" + ppm(1, 1, GROUND) + b"PICTURE 0 17\n" + ppm(2, 1, TREE, NONE) + b"FILE 0 3\nabc"
 
 
@@ -295,10 +295,10 @@ class Scripts(unittest.TestCase):
         self.assertEqual(line, (0, ppm(2, 1, TREE, NONE), ""))
 
     def test_a_summary_tells_what_a_refused_line_was(self):
-        refused = b"REFUSED 1\nEDITED 1 9\nREFUSED 2\n"
+        refused = b"REFUSED 1\nEDITED 1 9\nREFUSED 2\nCOUNT 1 18446744073709551615\n"
         text = (
-            b"3 replies: 0 PICTURE, 0 FILE, 1 EDITED, 2 REFUSED\n"
-            b"1 REFUSED 1, not a line of the grammar, or a view that isn't built: line 2: edit 0 0 0 9 9 9 all 32\n"
+            b"4 replies: 0 PICTURE, 0 FILE, 1 EDITED, 1 COUNT, 2 REFUSED\n"
+            b"1 REFUSED 1, not a line of the grammar: line 2: edit 0 0 0 9 9 9 all 32\n"
             b"3 REFUSED 2, a camera number is out of its range: line 5: save\n"
         )
         strict = "replies.py: -: 2 refused, the first by reply 1\n"

@@ -56,12 +56,14 @@ lies_between() {
   ((number >= $2 && number <= $3))
 }
 
-# Whether the 18 numbers of a camera are in their ranges.
+# Whether the 18 numbers of a camera of this kind are in their ranges.
 is_camera() {
+  local kind=$1
+  shift
   local size='1 4096' eye='-2147483648 2147483647' part='-32768 32767' unit='1 1099511627776' depth='0 4294967294' range word
   local ranges=("$size" "$size" "$eye" "$eye" "$eye")
   for ((word = 0; word < 9; word++)); do ranges+=("$part"); done
-  ranges+=("$unit" "$unit" "$depth" "$depth")
+  if [ "$kind" = persp ]; then ranges+=('1 1048576' "$unit" '1 4294967294' "$depth"); else ranges+=("$unit" "$unit" "$depth" "$depth"); fi
   for word; do
     range=${ranges[0]}
     ranges=("${ranges[@]:1}")
@@ -69,6 +71,18 @@ is_camera() {
     lies_between "$word" $range || return 1
   done
   ((10#${1#-} * 10#${2#-} <= 9437184)) && lies_between "${18}" "${17}" 4294967294
+}
+
+# Whether a word is a list of classes.
+is_class_list() {
+  local item ends items
+  [[ $1 = all ]] && return
+  [[ $1 =~ ^[0-9]{1,20}(-[0-9]{1,20})?(,[0-9]{1,20}(-[0-9]{1,20})?)*$ ]] || return 1
+  IFS=, read -r -a items <<<"$1"
+  for item in "${items[@]}"; do
+    IFS=- read -r -a ends <<<"$item-$item"
+    lies_between "${ends[0]}" 0 255 && lies_between "${ends[1]}" 0 255 && ((10#${ends[0]} <= 10#${ends[1]})) || return 1
+  done
 }
 
 # Whether the words are those of a line that is built. Where it says no the program mostly ends at once.
@@ -79,8 +93,9 @@ looks_right() {
     info:3) [[ $2 != "$3" || $2 = - ]] ;;
     draw:26)
       for word in "${@:6:18}"; do [[ $word =~ $number ]] || return 1; done
-      is_camera "${@:6:18}" || return 1
-      [[ ( $2 != "$3" || $2 = - ) && $4 =~ $workers && $5 = ortho && "${*:24}" = 'class all show' ]]
+      [[ ( $2 != "$3" || $2 = - ) && $4 =~ $workers && $5 =~ ^(ortho|persp)$ ]] || return 1
+      [[ ${24} =~ ^(class|rgb16|rgb8|intensity)$ && ${26} =~ ^(show|hide)$ ]] || return 1
+      is_camera "$5" "${@:6:18}" && is_class_list "${25}"
       ;;
     serve:6)
       [[ $3 =~ $workers && $2 != "$5" && $4 != "$6" ]] || return 1
@@ -174,6 +189,17 @@ foresee_survey() {
   fi
 }
 
+# Whether the survey's format has RGB, where that is asked for: byte 104 of the header tells the format.
+foresee_colour() {
+  local name=$1 form
+  if [ "$name" = - ]; then name=/dev/fd/0; fi
+  if [[ $2 != rgb* || ! -f $name || ! -r $name ]]; then return; fi
+  form=$(od -An -tu1 -j104 -N1 -- "$name" 2>/dev/null)
+  case ${form//[[:blank:]]/} in
+    0 | 1 | 4 | 6 | 9) note 4 23 "point data record format $((form)) has no RGB" ;;
+  esac
+}
+
 # What can be seen of a built line before it runs, in the order in which the program opens its files.
 foresee() {
   foresee_read "$2" 1
@@ -184,6 +210,7 @@ foresee() {
     foresee_write "$4" 3 1 4 5
     foresee_length "$5" 1048576 4 10
   else
+    if [ "$1" = draw ]; then foresee_colour "$2" "${24}"; fi
     foresee_write "$3" 2 1
   fi
 }
@@ -242,18 +269,9 @@ explain_number() {
 
 # Says which of the words that fit asks for what isn't built.
 explain_unbuilt() {
-  local at
   case ${words[0]} in
     trial) echo "word 0 is 'trial', which isn't built" ;;
     serve) echo "word 6 is $(quoted "${words[6]-}"): more than one pair of IN and OUT isn't built" ;;
-    draw)
-      for at in '4 ortho' '23 class' '24 all' '25 show'; do
-        if [ "${words[${at% *}]-}" != "${at#* }" ]; then
-          echo "word ${at% *} is $(quoted "${words[${at% *}]-}"), where ${at#* } alone is built"
-          return
-        fi
-      done
-      ;;
   esac
 }
 
