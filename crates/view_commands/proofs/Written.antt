@@ -178,24 +178,24 @@ refused_alone : (o : Option status.Status) (refusal : status.Status) → o ≡ S
 refused_alone o refusal is none = absurd (cc (is, none))
 
 -- a survey was read and refused, and nothing was written
-pub text-refused : (tells : Bool) (old new : Said) (survey out : List ℕ) (refusal : List ℕ → Option status.Status) (text : List ℕ → List ℕ) (b : List ℕ) (status : status.Status) → refusal b ≡ Some status → IsLaid b → IsReadWhole tells old new survey b → OnlyTook old new survey
-    → MakesText tells old new survey out refusal text status
-text-refused tells old new survey out refusal text b status is laid read took =
-    let made : Makes tells old new survey out (refusal b) (text b) status =
-    subst (λ (o : Option status.Status). Makes tells old new survey out o (text b) status) (sym is) (refl, took) in
+pub text-refused : (tells : Bool) (old new : Said) (survey out : List ℕ) (refusal : List ℕ → Option status.Status) (text : List ℕ → List ℕ) (b : List ℕ) (ended : status.Status) → refusal b ≡ Some ended → IsLaid b → IsReadWhole tells old new survey b → OnlyTook old new survey
+    → MakesText tells old new survey out refusal text ended
+text-refused tells old new survey out refusal text b ended is laid read took =
+    let made : Makes tells old new survey out (refusal b) (text b) ended =
+    subst (λ (o : Option status.Status). Makes tells old new survey out o (text b) ended) (sym is) (refl, took) in
     record {
       outcome = inr (b, laid, read, made);
       others = λ other apart. took.rest.files other;
-      settled = read-settles tells old new survey b refusal (Rose (old.writes out) (new.writes out) → ⊥) status laid read (λ other also. inl (the_same (refusal b) status other is also)) (λ free calm. absurd (refused_alone (refusal b) status is free));
+      settled = read-settles tells old new survey b refusal (Rose (old.writes out) (new.writes out) → ⊥) ended laid read (λ other also. inl (the_same (refusal b) ended other is also)) (λ free calm. absurd (refused_alone (refusal b) ended is free));
     }
   where
     the_same : (o : Option status.Status) (one other : status.Status) → o ≡ Some one → o ≡ Some other → one ≡ other
     the_same o one other is also = cc (is, also)
 
 -- a survey was read and not refused, and then its text written
-pub text-written : (tells : Bool) (old mid new : Said) (survey out : List ℕ) (refusal : List ℕ → Option status.Status) (text : List ℕ → List ℕ) (b bytes : List ℕ) (status : status.Status) → bytes ≡ text b → refusal b ≡ None → IsLaid b → IsReadWhole tells old mid survey b → OnlyTook old mid survey
-    → Writes tells mid new out bytes status → OnlyWrote mid new out → MakesText tells old new survey out refusal text status
-text-written tells old mid new survey out refusal text b bytes status is free laid read took written only =
+pub text-written : (tells : Bool) (old mid new : Said) (survey out : List ℕ) (refusal : List ℕ → Option status.Status) (text : List ℕ → List ℕ) (b bytes : List ℕ) (ended : status.Status) → bytes ≡ text b → refusal b ≡ None → IsLaid b → IsReadWhole tells old mid survey b → OnlyTook old mid survey
+    → Writes tells mid new out bytes ended → OnlyWrote mid new out → MakesText tells old new survey out refusal text ended
+text-written tells old mid new survey out refusal text b bytes ended is free laid read took written only =
     let reads : IsReadWhole tells old new survey b = record {
       few = read.few;
       all = read.all;
@@ -204,12 +204,12 @@ text-written tells old mid new survey out refusal text b bytes status is free la
       opened = only.rest.unopened survey ∙ read.opened;
       unfailed = only.rest.reads survey ∙ read.unfailed;
     } in
-    let writes : Writes tells old new out (text b) status =
-    subst (λ (l : List ℕ). Writes tells old new out l status) is (writes-earlier tells old mid new out bytes status took.rest.files (took.rest.writes out) (took.rest.unkept out) written) in
-    let made : Makes tells old new survey out (refusal b) (text b) status =
-    subst (λ (o : Option status.Status). Makes tells old new survey out o (text b) status) (sym free) writes in
+    let writes : Writes tells old new out (text b) ended =
+    subst (λ (l : List ℕ). Writes tells old new out l ended) is (writes-earlier tells old mid new out bytes ended took.rest.files (took.rest.writes out) (took.rest.unkept out) written) in
+    let made : Makes tells old new survey out (refusal b) (text b) ended =
+    subst (λ (o : Option status.Status). Makes tells old new survey out o (text b) ended) (sym free) writes in
     record {
       outcome = inr (b, laid, reads, made);
       others = λ other apart. only.files other apart ∙ took.rest.files other;
-      settled = read-settles tells old new survey b refusal (Rose (old.writes out) (new.writes out) → ⊥) status laid reads (λ other also. absurd (refused_alone (refusal b) other also free)) (λ none calm. writes-calm tells old new out (text b) status writes calm);
+      settled = read-settles tells old new survey b refusal (Rose (old.writes out) (new.writes out) → ⊥) ended laid reads (λ other also. absurd (refused_alone (refusal b) other also free)) (λ none calm. writes-calm tells old new out (text b) ended writes calm);
     }
