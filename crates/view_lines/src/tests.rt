@@ -1,3 +1,5 @@
+ghost use Rattle.std.specs.Prelude.{◌≤◌};
+
 use crate::{Command, Refusal, read_command};
 use int_camera::CameraLimit;
 use std::process::Abort;
@@ -5,7 +7,9 @@ use std::process::Abort;
 /// What a line for a survey of this format asks for: the width of a picture, the class of an edit,
 /// 1000 for a count of records that are not withheld and 1001 for one of all, and 0 for a save; or
 /// the code that refuses it.
-fn told(line: &[u8], format: u8) -> Result<u32, u8> {
+fn told(line: &[u8], format: u8) -> Result<u32, u8>
+    requires { format ≤ 10 }
+{
     match read_command(line, format) {
         Ok(command) => Ok(number_of(&command)),
         Err(refusal) => Err(refusal.code()),
@@ -22,6 +26,7 @@ fn number_of(command: &Command) -> u32 {
 }
 
 fn is_told(rt: &impl Abort, line: &[u8], format: u8, wanted: Result<u32, u8>) {
+    assert!(rt; format <= 10);
     assert_eq!(rt; told(line, format), wanted);
 }
 
