@@ -1,4 +1,6 @@
 //! Callers on one thread, against a list of their calls that is kept by hand.
+ghost use Rattle.std.specs.Prelude.{◌≡◌, [], IfOk};
+
 use crate::Store;
 use edit_ops::{Edit, read_edit};
 use las_survey::{Survey, load};
@@ -38,7 +40,9 @@ pub(crate) fn survey(alloc: Global) -> Result<Survey, Fail> {
 }
 
 /// The store of that survey.
-fn store(alloc: Global) -> Result<Store, Fail> {
+fn store(alloc: Global) -> Result<Store, Fail>
+    ensures { IfOk result (λ store. store.history ≡ []) }
+{
     Ok(Store::new(alloc, Arc::new(alloc, survey(alloc)?)?)?)
 }
 
