@@ -40,9 +40,9 @@ class Different(Exception):
     """What differs, and where."""
 
 
-def words(seen, digits=lambda: 1):
-    """The words of a view, numbers with zeros before them up to so many digits."""
-    numbers = [f"{number:0{digits()}d}" for number in seen.numbers]
+def words(lots, seen):
+    """The words of a view, some numbers with zeros before them."""
+    numbers = [f"{number:0{lots.choice((1, 1, 1, 12))}d}" for number in seen.numbers]
     return [seen.kind, *numbers, seen.colouring, seen.list, "hide" if seen.hides else "show"]
 
 
@@ -52,7 +52,7 @@ def shown(points, seen):
 
 def view_line(lots, made, points, version):
     seen = view(lots, made)
-    text = " ".join(["view", *words(seen, lambda: lots.choice((1, 1, 1, 12)))])
+    text = " ".join(["view", *words(lots, seen)])
     if seen.colouring.startswith("rgb") and made.format not in RGB:
         return Line(text, b"REFUSED 3\n")
     picture = shown(points, seen)
@@ -193,10 +193,10 @@ def try_views(lots, folder, tally):
         pictures = [line.answer for line in lines if line.answer.startswith(b"PICTURE")]
         seen = view(lots, made)
         if seen.colouring.startswith("rgb") and form not in RGB:
-            try_draw(folder, made, words(seen), 4, f"format {form} has no colour")
+            try_draw(folder, made, words(lots, seen), 4, f"format {form} has no colour")
         else:
             pictures.append(shown(made.points, seen))
-            try_draw(folder, made, words(seen), 0, "", pictures[-1])
+            try_draw(folder, made, words(lots, seen), 0, "", pictures[-1])
         tell(tally, records, pictures)
 
 
@@ -228,7 +228,7 @@ def try_chosen(lots, folder, tally, records, size, views):
     lines = []
     for seen in views:
         picture = shown(made.points, seen)
-        lines.append(Line(" ".join(["view", *words(seen)]), b"PICTURE 0 %d\n" % len(picture) + picture))
+        lines.append(Line(" ".join(["view", *words(lots, seen)]), b"PICTURE 0 %d\n" % len(picture) + picture))
     try_session(folder, made, lines, 1)
     tell(tally, records, [line.answer for line in lines])
 
