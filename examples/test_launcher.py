@@ -308,6 +308,13 @@ class Words(Launcher):
             further = self.refused(words, "word 26 is not expected", 2)
             self.assertEqual(further, b"" if looks_right else b"word 26 is missing\n", words)
 
+    def test_near_with_zeros_before_it(self):
+        for near, far, looks_right in (("08", "9", True), ("010", "10", True), ("-0", "0", True), ("010", "9", False)):
+            words = ["draw", "survey", "o", *CAMERA]
+            words[21:23] = near, far
+            further = self.refused(words, "word 26 is not expected", 2)
+            self.assertEqual(further, b"" if looks_right else b"word 26 is missing\n", words)
+
     def test_a_colouring_that_the_format_has_not(self):
         with open(os.path.join(self.root, "colourless"), "wb") as file:
             file.write(bytes(104) + b"\6")

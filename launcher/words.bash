@@ -70,7 +70,8 @@ is_camera() {
     # shellcheck disable=SC2086
     lies_between "$word" $range || return 1
   done
-  ((10#${1#-} * 10#${2#-} <= 9437184)) && lies_between "${18}" "${17}" 4294967294
+  # A bound with zeros before it would be read as octal.
+  ((10#${1#-} * 10#${2#-} <= 9437184)) && lies_between "${18}" "$((10#${17#-}))" 4294967294
 }
 
 # Whether a word is a list of classes.
