@@ -6,9 +6,7 @@
 
 import contextlib
 import io
-import os
 import struct
-import tempfile
 import unittest
 
 import aim
@@ -16,6 +14,7 @@ import assemble
 import perspective
 import reference_draw
 from script_ends import Wrong
+from test_metres import Files
 
 # E 500000 to 500200, N 5000000 to 5000400, heights 99.5 to 150, in units 0 0 -500 to 200000 400000 50000.
 BOUNDS = (500200.0, 500000.0, 5000400.0, 5000000.0, 150.0, 99.5)
@@ -39,18 +38,7 @@ def colour(kind):
     return bytes([(67 * kind + 64) % 256, (131 * kind + 128) % 256, (29 * kind + 192) % 256])
 
 
-class Views(unittest.TestCase):
-    def setUp(self):
-        folder = tempfile.TemporaryDirectory()
-        self.addCleanup(folder.cleanup)
-        self.folder = folder.name
-
-    def file(self, data):
-        name = os.path.join(self.folder, "survey.las")
-        with open(name, "wb") as out:
-            out.write(data)
-        return name
-
+class Views(Files):
     def aimed(self, name, eye, look, angle, size=(1000, 800)):
         """The camera's numbers, and what is said on standard error."""
         words = ["persp", *size, "--survey", name, "--eye", *eye, "--look", *look, "--angle", angle]
