@@ -8,10 +8,10 @@ ghost use Rattle.version_store.specs.Sharing.{IsAhead};
 ghost use Rattle.version_store.specs.Store.{newest, with_entry};
 ghost use Rattle.version_store.specs.declared.history.What.TheVariants as what;
 
+use crate::paged::PagedSurvey;
 use crate::store::Store;
 use class_pages::Classes;
 use edit_ops::Edit;
-use las_survey::Survey;
 use std::alloc::Global;
 use std::sync::Arc;
 use view_base::{OutOfMemory, Version};
@@ -32,7 +32,7 @@ impl Ahead {
     /// memory.
     pub(crate) fn of(
         alloc: Global,
-        survey: &Survey,
+        survey: &PagedSurvey,
         from: Version,
         classes: &Classes,
         edit: &Edit,
@@ -42,7 +42,7 @@ impl Ahead {
         requires room { edit.now.to ≤ meaning.top_class (format_of survey.now) }
         ensures { IfOk result (λ ahead. (edits : List meaning.Edit) → from ≡ length edits → classes.now ≡ meaning.classes survey.now edits → IsAhead survey.now edits edit.now ahead) }
     {
-        let (classes, count) = classes.edited(alloc, survey, edit)?;
+        let (classes, count) = survey.edited(alloc, classes, edit)?;
         Ok(Ahead {
             from,
             classes: Arc::new(alloc, classes)?,

@@ -6,6 +6,7 @@
 mod ahead;
 mod held;
 mod history;
+mod paged;
 mod pin;
 mod shared;
 #[cfg(test)]

@@ -11,6 +11,7 @@ ghost use Rattle.view_meaning.specs.Survey.{format_of, record_count};
 
 use crate::ahead::Ahead;
 use crate::history::Entry;
+use crate::paged::PagedSurvey;
 use crate::pin::Pin;
 use crate::store::Store;
 use class_pages::Classes;
@@ -53,19 +54,18 @@ impl Replayed for Store {
 pub struct Shared {
     alloc: Global,
     gate: Gate<Store>,
-    survey: Arc<Survey>,
+    survey: PagedSurvey,
 }
 
 impl Model for Shared {
     ghost use Rattle.std.specs.Prelude.{◌≡◌};
-    ghost use Rattle.std.specs.Arc.{arc_value};
     ghost use Rattle.version_store.specs.Sharing.{SharedStore};
 
     ghost Value = { SharedStore };
 
     ghost view = { λ s. record { name = s.gate.name; bytes = s.gate.first.bytes } };
 
-    ghost invariant = { λ s. arc_value s.survey ≡ s.gate.first.bytes };
+    ghost invariant = { λ s. s.survey ≡ s.gate.first.bytes };
 }
 
 impl Shared {
@@ -75,7 +75,8 @@ impl Shared {
         ensures pass { IfOk result (λ r. r.1 ≡ record { gate = r.0.name; who = 0; seen = []; mine = []; turn = None; root = true; out = 0; given = 0; kept = [] }) }
         ensures own { IfOk result (λ r. IsOwn r.1) }
     {
-        let store = Store::new(alloc, Arc::try_clone(&survey)?)?;
+        let store = Store::new(alloc, survey)?;
+        let survey = store.survey().share()?;
         match Gate::new(alloc, store) {
             Ok((gate, pass)) => Ok((
                 Shared {

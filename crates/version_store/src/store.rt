@@ -9,6 +9,7 @@ ghost use Rattle.version_store.specs.declared.history.What.TheVariants as what;
 
 use crate::held::{Held, place_of};
 use crate::history::{Entry, History, What, append};
+use crate::paged::PagedSurvey;
 use crate::pin::Pin;
 use class_pages::{Classes, base};
 use edit_ops::Edit;
@@ -24,7 +25,7 @@ use view_base::{OutOfMemory, Version};
 #[derive(Drop)]
 pub struct Store {
     alloc: Global,
-    survey: Arc<Survey>,
+    survey: PagedSurvey,
     held: Vec<Held>,
     history: Vec<Entry>,
     out: usize,
@@ -32,23 +33,23 @@ pub struct Store {
 
 impl Model for Store {
     ghost use Rattle.std.specs.Prelude.{◌-◌, vec_capacity, vec_len};
-    ghost use Rattle.std.specs.Arc.{arc_value};
     ghost use Rattle.version_store.specs.Store.{Stored, IsKept};
 
     ghost Value = { Stored };
 
-    ghost view = { λ s. record { bytes = arc_value s.survey; history = s.history.items } };
+    ghost view = { λ s. record { bytes = s.survey; history = s.history.items } };
 
-    ghost invariant = { λ s. IsKept (arc_value s.survey) s.history.items s.held.items s.out (vec_capacity s.history - vec_len s.history) };
+    ghost invariant = { λ s. IsKept s.survey s.history.items s.held.items s.out (vec_capacity s.history - vec_len s.history) };
 }
 
 impl Store {
     /// The store of a survey whose classes are those in its file, with no entry in its history. A
-    /// refusal is want of memory. One pass over the records.
+    /// refusal is want of memory. Two passes over the records.
     pub fn new(alloc: Global, survey: Arc<Survey>) -> Result<Store, OutOfMemory>
         ensures { IfOk result (λ store. store ≡ record { bytes = arc_value survey; history = [] }) }
     {
         let classes = Arc::new(alloc, base(alloc, &survey)?)?;
+        let survey = PagedSurvey::new(alloc, survey)?;
         let mut held = Vec::with_capacity(alloc, 1)?;
         held.push(Held {
             version: 0,
@@ -76,7 +77,7 @@ impl Store {
         ensures refused { OnErr result (self.new ≡ self.old) }
         ensures legal { IsLegal self.new.history }
     {
-        let (classes, count) = self.newest().edited(self.alloc, &self.survey, edit)?;
+        let (classes, count) = self.survey.edited(self.alloc, self.newest(), edit)?;
         let version = self.publish_made(who, edit, Arc::new(self.alloc, classes)?)?;
         Ok((version, count))
     }
@@ -189,9 +190,9 @@ impl Store {
         History::from_vec(self.history)
     }
 
-    /// The survey.
-    pub(crate) fn survey(&self) -> &Arc<Survey>
-        ensures { arc_value result.now ≡ self.now.bytes }
+    /// The survey, with the boxes of its pages.
+    pub(crate) fn survey(&self) -> &PagedSurvey
+        ensures { result.now ≡ self.now.bytes }
     {
         &self.survey
     }

@@ -13,4 +13,4 @@ invariant_of-result c =
     let made : Held = record { version = 0; pins = 0; classes = c.in_ok-classes.classes } in
     let version : IsVersion c.deref.result.now [] made = IsVersion-first c.deref.result.now made refl (c.in_ok-classes.ensures.ok ∙ c.in_ok-base.ensures.classes)
     (ap length c.in_ok-classes.ensures.ok ∙ c.in_ok-base.ensures.size) (subst (EachFits (format_of c.deref.result.now)) (sym c.in_ok-classes.ensures.ok) c.in_ok-base.ensures.top) in
-    rw (c.new-2.ensures.items, rw (c.unwrap.ensures, c.in_ok-held.ensures.items) at c.push.ensures.items) (IsKept-nil _ _ made refl (subst (λ b. IsVersion b [] made) c.deref.ensures version))
+    rw (c.in_ok-survey.ensures, c.new-3.ensures.items, rw (c.unwrap.ensures, c.in_ok-held.ensures.items) at c.push.ensures.items) (IsKept-nil _ _ made refl (subst (λ b. IsVersion b [] made) c.deref.ensures version))

@@ -9,7 +9,7 @@ use Rattle.version_store.proofs.store.Store.publish.Goals as goal
 pub returns-clause-count : goal.returns-clause-count
 returns-clause-count c =
     let before : c.deref.result.now ≡ newest c.args.self.now = c.deref.ensures ∙ c.newest.ensures.classes in
-    let bytes : c.deref-2.result.now ≡ c.args.self.now.bytes = c.deref-2.ensures ∙ ap (λ (s : Stored). s.bytes) c.self.view_is in
+    let bytes : c.self.inside.survey ≡ c.args.self.now.bytes = ap (λ (s : Stored). s.bytes) c.self.view_is in
     let after : c.in_ok-classes.classes ≡ meaning.classes c.args.self.now.bytes (journal c.args.self.now.history ++ c.args.edit.now ∷ []) =
     rw bytes at (c.in_ok-classes.ensures.edits (journal c.args.self.now.history) (before ∙ ap (λ b. meaning.classes b (journal c.args.self.now.history)) (sym bytes))) in
     let made : c.in_ok-classes.classes ≡ newest c.publish_made.new.self =

@@ -31,7 +31,7 @@ invariant_of-self-3 c =
     let made : Held = record { version = c.current-version.result + 1; pins = 0; classes = c.args.classes } in
     let version : IsVersion c.args.self.now.bytes (journal c.args.self.now.history ++ c.args.edit.now ∷ []) made =
     IsVersion-more _ _ _ made (ap (λ n. n + 1) current ∙ ap (λ (s : Stored). length (journal s.history) + 1) c.self.view_is) c.requires.classes c.requires.size c.requires.top in
-    let own : IsVersion (arc_value c.self.inside.survey) (journal c.self.inside.history.items ++ c.args.edit.now ∷ []) made =
+    let own : IsVersion c.self.inside.survey (journal c.self.inside.history.items ++ c.args.edit.now ∷ []) made =
     subst (λ (s : Stored). IsVersion s.bytes (journal s.history ++ c.args.edit.now ∷ []) made) (sym c.self.view_is) version in
     let here : c.index.result.now ≡ get_or c.self.inside.held.items (c.len-last.result - 1) c.index.result.now = c.index.ensures ∙ ap (λ l. get_or l (c.len-last.result - 1) c.index.result.now) c.reserve-2.ensures.items in
     let left : c.from.result ≡ cond (nat_lt 0 c.index.result.now.pins) 1 0 = c.from.ensures ∙ one_if (nat_lt 0 c.index.result.now.pins) in
