@@ -1,10 +1,9 @@
 -- What kept blocks mean for a survey's records: each record in view is in one of them.
-use Rattle.std.proofs.Common.{◌≡◌, ℕ, ◌+◌, ◌-◌, ◌<◌, ◌≤◌, List, length, get_or, drop, refl, ◌∙◌, ap, subst, arith}
+use Rattle.std.proofs.Common.{◌≡◌, ℕ, ◌+◌, ◌-◌, ◌<◌, ◌≤◌, List, length, get_or, drop, ◌∙◌, ap, subst, arith}
 use Rattle.std.specs.Prelude.{slice_get, Some, IsTrue}
 use Rattle.std.specs.List.{Contains}
 use Rattle.std.proofs.lemmas.List.{get_or-take, get_or-drop, length-take, length-drop}
 use Rattle.std.proofs.lemmas.List.Elements.{Contains-get_or}
-use Rattle.view_base.specs.declared.place.Point.{Point}
 use Rattle.view_meaning.specs.Camera.{Lens}
 use Rattle.view_meaning.specs.Classes.{in_box}
 use Rattle.view_meaning.specs.Survey.{record_count, point_of}

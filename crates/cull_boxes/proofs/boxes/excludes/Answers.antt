@@ -1,4 +1,4 @@
-use Rattle.std.proofs.Common.{◌≡◌, ◌+ℤ◌, FitsSigned, w32, arith, rules}
+use Rattle.std.proofs.Common.{◌+ℤ◌, FitsSigned, w32, arith, rules}
 use Rattle.std.proofs.lemmas.Int.{ints, to_z-of_z}
 use mir.Syntax.{w128}
 use Rattle.cull_boxes.proofs.Corners.{excludes-told}

@@ -1,4 +1,3 @@
-use Rattle.std.proofs.Common.{◌≡◌, All}
 use Rattle.cull_boxes.proofs.Corners.{excludes-all}
 use Rattle.cull_boxes.proofs.boxes.outside.Goals as goal
 

@@ -1,7 +1,6 @@
-use Rattle.std.proofs.Common.{◌≡◌, ◌∙◌, ℕ, ◌+◌, ◌≤◌, List, [], ◌∷◌, ◌++◌, length, length-append, ap, sym, subst, arith}
+use Rattle.std.proofs.Common.{◌≡◌, ◌∙◌, ◌+◌, [], ◌∷◌, ◌++◌, length, length-append, ap, sym, subst, arith}
 use Rattle.grid_blocks.specs.declared.block.Block.{Block}
 use Rattle.cull_boxes.specs.Outside.{IsOutside}
-use Rattle.cull_boxes.specs.Kept.{IsKept}
 use Rattle.cull_boxes.proofs.Corners.{is_outside, not_outside}
 use Rattle.cull_boxes.proofs.Keeping.{IsPicked, kept_all, kept_in_view, picked_more, picked_none, picked_skip}
 use Rattle.cull_boxes.proofs.kept_blocks.kept.Goals as goal
