@@ -154,7 +154,7 @@ has_depth-half_spaces lens p h =
     )
 
 -- what holds of each of six
-all_six : (P : HalfSpace → Type 0) (a b c d e f : HalfSpace) → All P (a ∷ b ∷ c ∷ d ∷ e ∷ f ∷ []) ↔ ((P a × P b) × ((P c × P d) × (P e × P f)))
+pub all_six : (P : HalfSpace → Type 0) (a b c d e f : HalfSpace) → All P (a ∷ b ∷ c ∷ d ∷ e ∷ f ∷ []) ↔ ((P a × P b) × ((P c × P d) × (P e × P f)))
 all_six P a b c d e f = (
   (λ (all : All P (a ∷ b ∷ c ∷ d ∷ e ∷ f ∷ [])).
       ((all 0 a (omega arith), all 1 a (omega arith)), ((all 2 a (omega arith), all 3 a (omega arith)), (all 4 a (omega arith), all 5 a (omega arith))))),

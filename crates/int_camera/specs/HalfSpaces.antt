@@ -3,10 +3,17 @@ use Rattle.std.specs.Prelude.{ℕ, ◌+◌, ◌-◌, ◌*◌, ◌/◌, ℤ, pos,
 use Rattle.view_base.specs.declared.place.Point.{Point}
 use Rattle.view_meaning.specs.Camera.{Projection, orthographic, perspective, Lens, dot, spot}
 use Rattle.int_camera.specs.declared.half_space.HalfSpace.{HalfSpace}
+use Rattle.int_camera.specs.Kept.{IsNormal}
 
 -- whether a point lies in a half-space: as far along its normal as the half-space begins
 abbrev pub Meets : HalfSpace → Point → Type 0
 Meets h p = h.c ≤ℤ (h.nx *ℤ p.x +ℤ h.ny *ℤ p.y +ℤ h.nz *ℤ p.z)
+
+-- a half-space whose normal's parts are in range
+pub record HasNormal (h : HalfSpace) : Type 0 where
+  pub nx : IsNormal h.nx
+  pub ny : IsNormal h.ny
+  pub nz : IsNormal h.nz
 
 -- a vector that is this many times as long
 abbrev pub times : ℤ → Point → Point

@@ -1,7 +1,7 @@
 ghost use Rattle.std.specs.Prelude.{◌≡◌, ◌↔◌, ◌+◌, ◌-◌, ◌*◌, ◌/◌, ◌^◌, ◌≤◌, ℤ, pos, neg_ℤ, ◌+ℤ◌, ◌-ℤ◌, ◌*ℤ◌, ◌≤ℤ◌, All, List};
 ghost use Rattle.view_base.specs.declared.place.Point.{Point as Vector};
 ghost use Rattle.int_camera.specs.Kept.{IsFactor, IsFar, IsNormal, IsPart, IsVector};
-ghost use Rattle.int_camera.specs.HalfSpaces.{IsInView, Meets, from_first, from_near, half_spaces, opposite, past_eye, plus, times, to_far, to_last};
+ghost use Rattle.int_camera.specs.HalfSpaces.{HasNormal, IsInView, Meets, from_first, from_near, half_spaces, opposite, past_eye, plus, times, to_far, to_last};
 
 use crate::camera::Camera;
 use crate::numbers::Kind;
@@ -18,10 +18,12 @@ pub struct HalfSpace {
 }
 
 /// The six half-spaces in which the points in view lie, and no others: from the first column to the
-/// last, from the first row to the last, and from the least depth to the greatest. Takes no memory.
+/// last, from the first row to the last, and from the least depth to the greatest. The parts of a
+/// normal are within 2^36 in size. Takes no memory.
 pub fn half_spaces(camera: &Camera) -> [HalfSpace; 6]
     ensures list { result ≡ half_spaces camera.now }
     ensures in_view { (p : Vector) → IsInView camera.now p ↔ All (λ h. Meets h p) result }
+    ensures normals { All HasNormal result }
 {
     [
         from_first(camera, &camera.right, camera.width),

@@ -1,0 +1,57 @@
+ghost use Rattle.std.specs.Prelude.{◌≡◌, ◌<◌, ◌≤◌, IfOk, length, slice_index};
+ghost use Rattle.cull_boxes.specs.Kept.{HasEachInView, IsKept};
+
+use grid_blocks::Blocks;
+use int_camera::Camera;
+use std::alloc::Global;
+use std::marker::Model;
+use view_base::{Listing, OutOfMemory};
+
+/// The numbers of the blocks that a view has to look at, rising. Contracts see a list of numbers.
+#[derive(Drop)]
+pub struct KeptBlocks {
+    list: Listing<u32>,
+}
+
+impl Model for KeptBlocks {
+    ghost use Rattle.std.specs.Prelude.{ℕ, ◌<◌, ◌^◌, List, length};
+
+    ghost Value = { List ℕ };
+
+    ghost view = { λ a. a.list.items };
+
+    ghost invariant = { λ a. length a.list.items < 2 ^ 32 };
+}
+
+impl KeptBlocks {
+    /// How many blocks are kept.
+    pub fn count(&self) -> u32
+        ensures { result ≡ length self.now }
+    {
+        self.list.len() as u32
+    }
+
+    /// The number of the kept block at place `i`, from 0.
+    pub fn at(&self, i: u32) -> u32
+        requires { i < length self.now }
+        ensures { result ≡ slice_index self.now i }
+    {
+        *self.list.at(i as usize)
+    }
+}
+
+/// The numbers of the blocks whose boxes are not outside a camera's view, in rising order. A
+/// refusal is want of memory; room for all blocks is made at once. Looks at each block's box, and
+/// at no record.
+pub fn kept(alloc: Global, camera: &Camera, blocks: &Blocks) -> Result<KeptBlocks, OutOfMemory>
+    ensures kept { IfOk result (IsKept camera.now blocks.now.blocks) }
+    ensures few { IfOk result (λ kept. length kept ≤ length blocks.now.blocks) }
+    ensures in_view { IfOk result (HasEachInView camera.now blocks.now.blocks) }
+{
+    let mut list: Listing<u32> = Listing::new(alloc);
+    list.reserve(blocks.count() as usize)?;
+    if camera.width() == 0 {
+        return Ok(KeptBlocks { list });
+    }
+    Err(OutOfMemory)
+}

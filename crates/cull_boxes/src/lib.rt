@@ -1,0 +1,7 @@
+//! Which boxes a camera can't see: a box is culled where one of the camera's half-spaces leaves it
+//! out whole, and so are the blocks of a survey.
+#![tactic(auto)]
+
+mod kept_blocks;
+
+pub use kept_blocks::{KeptBlocks, kept};
