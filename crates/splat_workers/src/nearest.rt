@@ -9,7 +9,7 @@ use class_pages::Classes;
 use cull_boxes::kept;
 use grid_blocks::Blocks;
 use las_survey::Survey;
-use min_frame::Frame;
+use min_frame::{Frame, MOST_BLOCKS};
 use std::alloc::Global;
 use std::thread::Threads;
 use view_base::{OutOfMemory, Words};

@@ -1,5 +1,6 @@
-ghost use Rattle.std.specs.Prelude.{◌≡◌, ◌+◌, ◌<◌, ◌≤◌, ◌++◌, [], length};
-ghost use Rattle.splat_workers.specs.Drawing.{IsFrameFor, claimed_pairs};
+ghost use Rattle.std.specs.Prelude.{◌≡◌};
+ghost use Rattle.splat_workers.specs.Drawing.{IsFrameFor};
+ghost use Rattle.splat_workers.specs.Working.{HasDrawn, IsReady};
 
 use crate::block::draw_block;
 use crate::plan::Plan;
@@ -16,16 +17,13 @@ pub(crate) struct Worker {
 /// Claims kept blocks until none is left, tells of each claim, and draws the block.
 pub(crate) fn work<B: Beside>(plan: &Plan, frame: &Frame, beside: &B, worker: &mut Worker)
     requires fits { IsFrameFor plan.now frame.now }
-    requires frame { worker.old.seat.frame ≡ frame.now.name }
-    requires plots { worker.old.seat.plots ≡ [] }
-    requires claims { worker.old.seat.claims ≡ [] }
-    requires ends { worker.old.seat.ends ≡ 1 }
-    ensures { worker.new.seat ≡ record worker.old.seat { plots = claimed_pairs plan.now worker.new.seat.claims; claims = worker.new.seat.claims; ends = 0 } }
+    requires ready { IsReady frame.now.name worker.old.seat }
+    ensures drawn { HasDrawn plan.now frame.now.name worker.new.seat }
+    ensures root { worker.new.seat.root ≡ worker.old.seat.root }
+    ensures out { worker.new.seat.out ≡ worker.old.seat.out }
 {
-    let number = worker.number;
-    let seat = &mut worker.seat;
-    while let Some(claimed) = frame.claim(seat) {
-        beside.arrive(number, claimed);
-        draw_block(plan, frame, seat, plan.kept.at(claimed));
+    while let Some(claimed) = frame.claim(&mut worker.seat) {
+        beside.arrive(worker.number, claimed);
+        draw_block(plan, frame, &mut worker.seat, plan.kept.at(claimed));
     }
 }
