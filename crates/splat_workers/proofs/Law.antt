@@ -37,9 +37,9 @@ only_one y x (k, lt, is) = let first : k ≡ 0 = omega (arith, lt) in sym (subst
 
 pair_by : (b cs : List ℕ) (lens : Lens) (filter : Filter) (i : ℕ) (p : ℕ × ℕ) (c : Bool) (o : Option Spot) → passes b cs filter i ≡ c → spot lens (point_of b i) ≡ o
     → Contains (if c then pair_at lens i o else []) p → IsPairOf b cs lens filter i p
-pair_by b cs lens filter i p true (Some s) yes falls has = record { spot_is = s; passing = yes; falls = falls; pair = only_one (pixel_of lens s, s.depth * 2 ^ 32 + i) p has }
-pair_by b cs lens filter i p true None yes falls (k, lt, is) = absurd (omega (arith, lt))
-pair_by b cs lens filter i p false o no falls (k, lt, is) = absurd (omega (arith, lt))
+pair_by b cs lens filter i p true (Some s) passing falls has = record { spot_is = s; passing = passing; falls = falls; pair = only_one (pixel_of lens s, s.depth * 2 ^ 32 + i) p has }
+pair_by b cs lens filter i p true None passing falls (k, lt, is) = absurd (omega (arith, lt))
+pair_by b cs lens filter i p false o failing falls (k, lt, is) = absurd (omega (arith, lt))
 
 pair_of-is : (b cs : List ℕ) (lens : Lens) (filter : Filter) (i : ℕ) (p : ℕ × ℕ) → Contains (pair_of b cs lens filter i) p → IsPairOf b cs lens filter i p
 unfolding pair_of
@@ -48,9 +48,9 @@ pair_of-is b cs lens filter i p has = pair_by b cs lens filter i p (passes b cs 
 pair_of-has : (b cs : List ℕ) (lens : Lens) (filter : Filter) (i : ℕ) (s : Spot) → passes b cs filter i ≡ true → spot lens (point_of b i) ≡ Some s
     → Contains (pair_of b cs lens filter i) (pixel_of lens s, s.depth * 2 ^ 32 + i)
 unfolding pair_of
-pair_of-has b cs lens filter i s yes falls =
+pair_of-has b cs lens filter i s passing falls =
     subst (λ l. Contains l (pixel_of lens s, s.depth * 2 ^ 32 + i))
-    (sym (ap (λ (c : Bool). if c then pair_at lens i (spot lens (point_of b i)) else []) yes ∙ ap (pair_at lens i) falls)) (0, omega arith, refl)
+    (sym (ap (λ (c : Bool). if c then pair_at lens i (spot lens (point_of b i)) else []) passing ∙ ap (pair_at lens i) falls)) (0, omega arith, refl)
 
 -- pairs of records, of each that passes and is in view
 record HasPairs (b cs : List ℕ) (view : View) (plots : List (ℕ × ℕ)) : Type 0 where
@@ -85,7 +85,7 @@ all_kept b cs view blocked kept claims plots are has all same = record {
       let n : ℕ = found.2.0 in
       let within : n < length kept = found.2.1 in
       let at : slice_index kept n ≡ k = get_or_default kept n 0 k within ∙ found.2.2 in
-      let p = (pixel_of view.camera s, s.depth * 2 ^ 32 + i) in
+      let p : ℕ × ℕ = (pixel_of view.camera s, s.depth * 2 ^ 32 + i) in
       let inside : Contains (flat_map (pair_of b cs view.camera view.filter) (part block blocked.members)) p =
       contains-flat_map (pair_of b cs view.camera view.filter) (part block blocked.members) i p found.4 (pair_of-has b cs view.camera view.filter i s passing falls) in
       let in_block : Contains (block_pairs b cs view.camera view.filter blocked (slice_index kept n)) p =
