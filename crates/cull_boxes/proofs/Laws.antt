@@ -1,10 +1,9 @@
 -- What kept blocks mean for a survey's records: each record in view is in one of them.
-use Rattle.std.proofs.Common.{◌≡◌, ℕ, zero, suc, ◌+◌, ◌-◌, ◌<◌, ◌≤◌, List, [], ◌∷◌, length, get_or, drop, refl, ◌∙◌, ap, subst, arith}
+use Rattle.std.proofs.Common.{◌≡◌, ℕ, ◌+◌, ◌-◌, ◌<◌, ◌≤◌, List, length, get_or, drop, ◌∙◌, ap, subst, arith}
 use Rattle.std.specs.Prelude.{slice_get, Some, IsTrue}
 use Rattle.std.specs.List.{Contains}
 use Rattle.std.proofs.lemmas.List.{get_or-take, get_or-drop, length-take, length-drop}
 use Rattle.std.proofs.lemmas.List.Elements.{Contains-get_or}
-use Rattle.view_base.specs.declared.place.Point.{Point}
 use Rattle.view_meaning.specs.Camera.{Lens}
 use Rattle.view_meaning.specs.Classes.{in_box}
 use Rattle.view_meaning.specs.Survey.{record_count, point_of}
@@ -15,6 +14,7 @@ use Rattle.grid_blocks.proofs.Laws.{block_of, place_of, within_area}
 use Rattle.grid_blocks.proofs.Once.{length-once}
 use Rattle.int_camera.specs.HalfSpaces.{IsInView}
 use Rattle.cull_boxes.specs.Kept.{HasEachInView}
+use Rattle.cull_boxes.proofs.Keeping.{slice_get-lt}
 
 -- each record in view stands at some place of a kept block
 pub kept_place : (b : List ℕ) (lens : Lens) (blocked : Blocked) (kept : List ℕ) (i : ℕ) → IsBlocks b blocked → HasEachInView lens blocked.blocks kept → i < record_count b → IsInView lens (point_of b i)
@@ -25,11 +25,6 @@ kept_place b lens blocked kept i are has lt seen =
     let within = within_area b blocked block.0 place.0 block.1 are block.2 block.3 block.4 in
     let inside : IsTrue (in_box block.1.area (point_of b i)) = subst (λ (j : ℕ). IsTrue (in_box block.1.area (point_of b j))) place.2 within in
     (block.0, block.1, place.0, has block.0 block.1 (point_of b i) block.2 inside seen, block.2, block.3, block.4, place.2)
-
-slice_get-lt : (blocks : List Block) (k : ℕ) (block : Block) → slice_get blocks k ≡ Some block → k < length blocks
-slice_get-lt [] k block is = absurd cc
-slice_get-lt (x ∷ blocks) zero block is = omega arith
-slice_get-lt (x ∷ blocks) (suc k) block is = let rest : k < length blocks = slice_get-lt blocks k block is in omega (arith, rest)
 
 -- each record in view is a member of a kept block
 pub kept_member : (b : List ℕ) (lens : Lens) (blocked : Blocked) (kept : List ℕ) (i : ℕ) → IsBlocks b blocked → HasEachInView lens blocked.blocks kept → i < record_count b → IsInView lens (point_of b i)

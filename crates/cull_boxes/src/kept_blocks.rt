@@ -1,8 +1,9 @@
 ghost use Rattle.std.specs.Prelude.{◌≡◌, ◌<◌, ◌≤◌, IfOk, length, slice_index};
 ghost use Rattle.cull_boxes.specs.Kept.{HasEachInView, IsKept};
 
+use crate::boxes::some_excludes;
 use grid_blocks::Blocks;
-use int_camera::Camera;
+use int_camera::{Camera, half_spaces};
 use std::alloc::Global;
 use std::marker::Model;
 use view_base::{Listing, OutOfMemory};
@@ -48,10 +49,13 @@ pub fn kept(alloc: Global, camera: &Camera, blocks: &Blocks) -> Result<KeptBlock
     ensures few { IfOk result (λ kept. length kept ≤ length blocks.now.blocks) }
     ensures in_view { IfOk result (HasEachInView camera.now blocks.now.blocks) }
 {
-    let mut list: Listing<u32> = Listing::new(alloc);
+    let spaces = half_spaces(camera);
+    let mut list = Listing::new(alloc);
     list.reserve(blocks.count() as usize)?;
-    if camera.width() == 0 {
-        return Ok(KeptBlocks { list });
+    for k in 0..blocks.count() {
+        if !some_excludes(&spaces, &blocks.block(k).area) {
+            list.push_within(k);
+        }
     }
-    Err(OutOfMemory)
+    Ok(KeptBlocks { list })
 }

@@ -2,6 +2,10 @@
 //! out whole, and so are the blocks of a survey.
 #![tactic(auto)]
 
+mod boxes;
 mod kept_blocks;
+#[cfg(test)]
+mod tests;
 
+pub use boxes::outside;
 pub use kept_blocks::{KeptBlocks, kept};

@@ -1,0 +1,117 @@
+use crate::{kept, outside};
+use grid_blocks::build;
+use int_camera::{Camera, CameraNumbers, Kind};
+use las_survey::{Survey, load};
+use std::alloc::Global;
+use std::process::Abort;
+use std::test::Fail;
+use view_base::{Box3, Bytes, OutOfMemory, Point};
+use view_ends::StillSource;
+
+/// Three cells, of which the first and the last are out of view. The middle one holds the origin,
+/// which is in view, and the corners of its box aren't.
+const WIDE: [[i32; 3]; 5] = [
+    [-100000, -100000, 5],
+    [-10, -10, 5],
+    [0, 0, 5],
+    [10, 10, 5],
+    [100000, 100000, 5],
+];
+
+/// Appends a header of 375 bytes before so many records of 20 bytes.
+fn append_header(bytes: &mut Bytes, records: u32) -> Result<(), OutOfMemory> {
+    bytes.append(b"LASF")?;
+    bytes.append(&[0; 20])?;
+    bytes.append(&[1, 4])?;
+    bytes.append(&[0; 68])?;
+    bytes.append(&375u16.to_le_bytes())?;
+    bytes.append(&375u32.to_le_bytes())?;
+    bytes.append(&[0; 5])?;
+    bytes.append(&20u16.to_le_bytes())?;
+    bytes.append(&[0; 140])?;
+    bytes.append(&u64::from(records).to_le_bytes())?;
+    bytes.append(&[0; 120])
+}
+
+/// Appends a record at a place.
+fn append_record(bytes: &mut Bytes, [x, y, z]: [i32; 3]) -> Result<(), OutOfMemory> {
+    bytes.append(&x.to_le_bytes())?;
+    bytes.append(&y.to_le_bytes())?;
+    bytes.append(&z.to_le_bytes())?;
+    bytes.append(&[0; 8])
+}
+
+/// A survey of so many records: first records at one place, and then records at these.
+fn survey(alloc: Global, records: u32, others: &[[i32; 3]]) -> Result<Survey, Fail> {
+    let mut bytes = Bytes::new(alloc);
+    append_header(&mut bytes, records)?;
+    for _ in others.len()..records as usize {
+        append_record(&mut bytes, [0, 0, 5])?;
+    }
+    for place in others {
+        append_record(&mut bytes, *place)?;
+    }
+    Ok(load(alloc, &mut StillSource::new(bytes))?)
+}
+
+/// A camera of one pixel at the origin that looks along Z to a depth of 10.
+fn one_pixel(rt: &impl Abort) -> Camera {
+    let n = [1, 1, 0, 0, 0, 1, 0, 0, 0, 1, 0, 0, 0, 1, 1, 1, 0, 10];
+    let kind = Kind::Ortho;
+    Camera::new(&CameraNumbers { kind, n }).expect(rt, "a camera")
+}
+
+/// The camera of one pixel keeps these blocks of a survey.
+fn keeps(rt: &impl Abort, alloc: Global, survey: &Survey, wanted: &[u32]) -> Result<(), Fail> {
+    let blocks = build(alloc, survey)?;
+    let kept = kept(alloc, &one_pixel(rt), &blocks)?;
+    assert_eq!(rt; kept.count() as usize, wanted.len());
+    for i in 0..kept.count() {
+        assert_eq!(rt; kept.at(i), wanted[i as usize]);
+    }
+    Ok(())
+}
+
+#[test]
+fn a_box_wider_than_the_picture_is_kept(rt: HostRuntime) -> Result<(), Fail> {
+    keeps(&rt, rt.alloc(), &survey(rt.alloc(), 5, &WIDE)?, &[1])
+}
+
+#[test]
+fn a_block_beside_the_picture_is_not_kept(rt: HostRuntime) -> Result<(), Fail> {
+    let survey = survey(rt.alloc(), 1025, &[[5000, 0, 5]])?;
+    keeps(&rt, rt.alloc(), &survey, &[0])
+}
+
+#[test]
+fn no_records_have_no_kept_blocks(rt: HostRuntime) -> Result<(), Fail> {
+    keeps(&rt, rt.alloc(), &survey(rt.alloc(), 0, &[])?, &[])
+}
+
+/// Whether a box with these least and greatest corners is outside the view of a camera in
+/// perspective of two pixels at the origin that looks along Z.
+fn is_outside(rt: &impl Abort, [x, y, z]: [i32; 3], [to_x, to_y, to_z]: [i32; 3]) -> bool {
+    let n = [2, 1, 0, 0, 0, 1, 0, 0, 0, 1, 0, 0, 0, 1, 1, 1, 1, 10];
+    let kind = Kind::Persp;
+    let camera = Camera::new(&CameraNumbers { kind, n }).expect(rt, "a camera");
+    outside(
+        &camera,
+        &Box3 {
+            min: Point { x, y, z },
+            max: Point {
+                x: to_x,
+                y: to_y,
+                z: to_z,
+            },
+        },
+    )
+}
+
+#[test]
+fn a_box_behind_the_eye_is_outside(rt: HostRuntime) {
+    assert!(rt; is_outside(&rt, [-5, -5, -9], [5, 5, -1]));
+    assert!(rt; is_outside(&rt, [-5, -5, -9], [5, 5, 0]));
+    assert!(rt; !is_outside(&rt, [-5, -5, -9], [5, 5, 1]));
+    assert!(rt; is_outside(&rt, [9, -5, 1], [99, 5, 9]));
+    assert!(rt; !is_outside(&rt, [8, -5, 1], [99, 5, 9]));
+}
