@@ -7,6 +7,8 @@ mod block;
 mod drawing;
 mod nearest;
 mod plan;
+#[cfg(test)]
+mod tests;
 mod worker;
 
 pub use drawing::draw_words;
