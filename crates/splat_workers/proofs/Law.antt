@@ -104,9 +104,10 @@ pair-candidate b cs view x y i v across of =
     let pixel : y * view.camera.width + x ≡ pixel_of view.camera s = ap (λ (p : ℕ × ℕ). p.0) of.pair in
     let value : v ≡ s.depth * 2 ^ 32 + i = ap (λ (p : ℕ × ℕ). p.1) of.pair in
     let place = same_place x y s.column s.row view.camera.width across within.across pixel in
-    let here : is_at x y (Some s) ≡ true = let column : x ≡ s.column = place.0 in let row : y ≡ s.row = place.1 in grind (arith, nat_tests) in
-    (ap (λ (c : Bool). c && is_at x y (spot view.camera (point_of b i))) of.passing ∙ ap (is_at x y) of.falls ∙ here,
-    value ∙ ap (λ (o : Option Spot). spot_depth o * 2 ^ 32 + i) (sym of.falls))
+    let here : is_at x y (Some s) ≡ true = let column : x ≡ s.column = place.0 in let row : y ≡ s.row = place.1 in grind (arith, nat_tests) in (
+      ap (λ (c : Bool). c && is_at x y (spot view.camera (point_of b i))) of.passing ∙ ap (is_at x y) of.falls ∙ here,
+      value ∙ ap (λ (o : Option Spot). spot_depth o * 2 ^ 32 + i) (sym of.falls),
+    )
 
 both : (a b : Bool) → (a && b) ≡ true → (a ≡ true) × (b ≡ true)
 both true true is = (refl, refl)
@@ -141,7 +142,7 @@ least-word : (b cs : List ℕ) (view : View) (x y : ℕ) (plots : List (ℕ × �
 least-word b cs view x y plots None pairs far few across shows =
     let at = y * view.camera.width + x in
     let low : 2 ^ 64 - 1 ≤ least plots at = least-at_least plots at (2 ^ 64 - 1) (omega arith) (λ v has.
-        let found = pairs.only (at, v) has in absurd (shows found.0 found.1 (pair-candidate b cs view x y found.0 v across found.2).0)) in
+    let found = pairs.only (at, v) has in absurd (shows found.0 found.1 (pair-candidate b cs view x y found.0 v across found.2).0)) in
     omega (arith, low, least-le plots at)
 least-word b cs view x y plots (Some i) pairs far few across shows =
     let at = y * view.camera.width + x in
@@ -150,11 +151,11 @@ least-word b cs view x y plots (Some i) pairs far few across shows =
     let deep : depth_of b view i < 2 ^ 32 - 1 = depth_of_within b view i far in
     let high : least plots at ≤ word = least-at_most plots at word (candidate-pair b cs view x y i plots pairs counts shows.falls) in
     let low : word ≤ least plots at = least-at_least plots at word (omega (arith, counts, few, deep)) (λ v has.
-        let found = pairs.only (at, v) has in
-        let here = pair-candidate b cs view x y found.0 v across found.2 in
-        let value : v ≡ depth_of b view found.0 * 2 ^ 32 + found.0 = here.1 in
-        let order = in_order (depth_of b view i) (depth_of b view found.0) i found.0 (omega (arith, counts, few)) (shows.least found.0 found.1 here.0) in
-        omega (arith, value, order)) in
+    let found = pairs.only (at, v) has in
+    let here = pair-candidate b cs view x y found.0 v across found.2 in
+    let value : v ≡ depth_of b view found.0 * 2 ^ 32 + found.0 = here.1 in
+    let order = in_order (depth_of b view i) (depth_of b view found.0) i found.0 (omega (arith, counts, few)) (shows.least found.0 found.1 here.0) in
+    omega (arith, value, order)) in
     omega (arith, high, low)
 
 -- the words of a closed frame on which all kept blocks were drawn

@@ -137,7 +137,9 @@ fn word_by<R: Threads + Sync>(
 {
     let classes = base(alloc, survey)?;
     let blocks = build_by_number(alloc, survey)?;
-    let words = nearest_words(alloc, rt, survey, &classes, &blocks, view, workers, &NoBeside)?;
+    let words = nearest_words(
+        alloc, rt, survey, &classes, &blocks, view, workers, &NoBeside,
+    )?;
     Ok(words.as_slice().get(pixel).copied())
 }
 
@@ -154,6 +156,7 @@ fn any_number_of_workers_shows_the_nearest(rt: HostRuntime) -> Result<(), Fail> 
 
 /// Holds each of two workers in its first call until the other one has come, and counts how often
 /// each number below 3 was told.
+#[derive(Drop)]
 struct Hold {
     first: AtomicU64,
     second: AtomicU64,

@@ -14,5 +14,5 @@ loop-place-preserved c =
     let i = slice_index c.args.numbers.now place in
     let within : i < record_count b = c.requires.numbers place 0 c.loop-place-test.true in
     plotting-more _ _ _ _ _ _ c.loop-place.invariant c.plot_point.ensures (pairs-take (pair_of b cs lens filter) c.args.numbers.now place _ c.loop-place-test.true
-      (pair_of-passes b cs lens filter i _ (passes-any b cs filter i c.pages.ensures.bytes (omega (arith, within, c.requires.records)) c.requires.classes c.requires.withheld)
-        (at_place (point_of b) c.args.numbers.now c.args.points.now place _ c.requires.points c.loop-place-test.true)))
+    (pair_of-passes b cs lens filter i _ (passes-any b cs filter i c.pages.ensures.bytes (omega (arith, within, c.requires.records)) c.requires.classes c.requires.withheld)
+    (at_place (point_of b) c.args.numbers.now c.args.points.now place _ c.requires.points c.loop-place-test.true)))

@@ -14,5 +14,5 @@ loop-number-preserved c =
     let i = c.loop-number.number in
     let below : i < c.args.first + c.args.count = c.loop-number-test.true in
     plotting-more _ _ _ _ _ _ c.loop-number.invariant c.plot_point.ensures (pairs-range (pair_of b cs lens filter) c.args.first i _ c.loop-number.auto.number
-      (pair_of-passes b cs lens filter i _ (passes-any b cs filter i c.pages.ensures.bytes (omega (arith, below, c.requires.records, c.requires.numbers)) c.requires.classes c.requires.withheld)
-        (point-from_part b i _ _ c.point_bytes.ensures.least c.point_bytes.ensures.bytes c.xyz-point.ensures)))
+    (pair_of-passes b cs lens filter i _ (passes-any b cs filter i c.pages.ensures.bytes (omega (arith, below, c.requires.records, c.requires.numbers)) c.requires.classes c.requires.withheld)
+    (point-from_part b i _ _ c.point_bytes.ensures.least c.point_bytes.ensures.bytes c.xyz-point.ensures)))
