@@ -1,0 +1,4 @@
+pub mod Blocks
+pub mod Law
+pub mod Least
+pub mod Plotting

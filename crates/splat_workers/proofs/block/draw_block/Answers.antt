@@ -1,0 +1,32 @@
+use Rattle.std.proofs.Common.{◌≡◌, ◌∙◌, ap, arith, sym}
+use Rattle.grid_blocks.proofs.Once.{length-once}
+use Rattle.view_meaning.specs.Survey.{record_count}
+use Rattle.splat_workers.proofs.Blocks.{block_at, block_pairs-part, part_below, part-numbered}
+use Rattle.splat_workers.proofs.Plotting.{plotting}
+use Rattle.splat_workers.proofs.block.draw_block.Goals as goal
+
+pub draw_copied-requires-clause-numbers : goal.draw_copied-requires-clause-numbers
+draw_copied-requires-clause-numbers c =
+    let block = block_at c.args.plan.now.blocks.now.blocks c.args.k c.requires.block in
+    part_below c.args.plan.now.survey.now c.args.plan.now.blocks.now block.0 c.in-Some.records.numbers.now c.requires.blocks (c.in-Some.ensures.numbers block.0 block.1)
+
+pub draw_numbered-requires-clause-numbers : goal.draw_numbered-requires-clause-numbers
+draw_numbered-requires-clause-numbers c =
+    omega (arith, c.block-block.ensures.within, length-once (record_count c.args.plan.now.survey.now) c.args.plan.now.blocks.now.members c.requires.blocks.members)
+
+pub returns-in-Some : goal.returns-in-Some
+returns-in-Some c =
+    let plan = c.args.plan.now in
+    let block = block_at plan.blocks.now.blocks c.args.k c.requires.block in
+    c.draw_copied.ensures
+    ∙ ap (plotting c.args.seat.now)
+    (block_pairs-part plan.survey.now plan.classes.now plan.camera.now plan.filter.now plan.blocks.now c.args.k block.0 c.in-Some.records.numbers.now block.1 (c.in-Some.ensures.numbers block.0 block.1))
+
+pub returns-in-None : goal.returns-in-None
+returns-in-None c =
+    let plan = c.args.plan.now in
+    let block = c.block-block.result.now in
+    c.draw_numbered.ensures
+    ∙ ap (plotting c.args.seat.now)
+    (block_pairs-part plan.survey.now plan.classes.now plan.camera.now plan.filter.now plan.blocks.now c.args.k block _ c.block-block.ensures.block
+    (part-numbered plan.blocks.now.members block c.in-None.ensures.none c.block-block.ensures.within))

@@ -1,0 +1,25 @@
+-- What workers draw of a plan on a frame.
+use Rattle.std.specs.Prelude.{◌≡◌, ◌↔◌, ℕ, ◌*◌, ◌<◌, Bool, false, List, [], length, slice_index}
+use Rattle.std.specs.List.{All, Contains, flat_map}
+use Rattle.view_meaning.specs.Survey.{record_count}
+use Rattle.grid_blocks.specs.Blocks.{IsBlocks}
+use Rattle.min_frame.specs.Meaning.{Framed, Seated}
+use Rattle.splat_workers.specs.declared.plan.Plan.{Plan}
+use Rattle.splat_workers.specs.Pairs.{block_pairs}
+
+-- a plan whose parts are of one survey, and a frame with a word for each pixel and a number for each kept block
+pub record IsFrameFor (plan : Plan) (frame : Framed) : Type 0 where
+  pub classes : length plan.classes.now ≡ record_count plan.survey.now
+  pub blocks : IsBlocks plan.survey.now plan.blocks.now
+  pub kept : All (λ k. k < length plan.blocks.now.blocks) plan.kept.now
+  pub pixels : frame.pixels ≡ plan.camera.now.width * plan.camera.now.height
+  pub numbers : frame.blocks ≡ length plan.kept.now
+
+-- the pairs of the records of the kept blocks with these numbers
+abbrev pub claimed_pairs : Plan → List ℕ → List (ℕ × ℕ)
+claimed_pairs plan claims =
+    flat_map (λ k. block_pairs plan.survey.now plan.classes.now plan.camera.now plan.filter.now plan.blocks.now (slice_index plan.kept.now k)) claims
+
+-- lists with the same pairs, in whatever order and however often
+abbrev pub SamePairs : List (ℕ × ℕ) → List (ℕ × ℕ) → Type 0
+SamePairs plots pairs = (p : ℕ × ℕ) → Contains plots p ↔ Contains pairs p
