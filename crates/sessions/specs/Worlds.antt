@@ -1,15 +1,17 @@
 -- What a session needs of what it shares with others, and of its pass.
 use Rattle.std.specs.Prelude.{◌≡◌, ℕ, ◌≤◌, List}
 use Rattle.std.specs.Arc.{arc_value}
+use Rattle.grid_blocks.specs.Blocks.{IsBlocks}
 use Rattle.version_store.specs.declared.history.Entry.{Entry}
 use Rattle.version_store.specs.Histories.{numbered, entries_by, is_pin, is_unpin, how_many}
 use Rattle.sessions.specs.declared.drawing.Scene.{Scene}
 use Rattle.sessions.specs.declared.world.World.{World}
 
--- a scene that pictures can be drawn of
+-- a scene that pictures can be drawn of: by 1 to 64 workers, over blocks of its survey
 pub record IsScene (scene : Scene) : Type 0 where
   pub some : 1 ≤ scene.workers
   pub few : scene.workers ≤ 64
+  pub blocks : IsBlocks (arc_value scene.survey) scene.blocks
 
 -- a world whose store is over the survey of its scene
 pub record IsWorld (world : World) : Type 0 where

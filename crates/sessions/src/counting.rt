@@ -2,10 +2,10 @@ ghost use Rattle.std.specs.Prelude.{◌≡◌, length};
 ghost use Rattle.view_meaning.specs.Classes.{passing};
 ghost use Rattle.view_meaning.specs.Survey.{record_count};
 
+use crate::filtering::passes;
 use class_bits::Filter;
 use class_pages::Classes;
 use las_survey::Survey;
-use plain_picture::passes;
 
 /// How many records of a survey pass a filter under these classes. One pass over the records,
 /// which takes no memory.

@@ -6,10 +6,11 @@ ghost use Rattle.view_meaning.specs.Picture.{can_colour, picture, ppm_header};
 ghost use Rattle.view_meaning.specs.Survey.{record_count, format_of};
 
 use class_pages::Classes;
+use grid_blocks::Blocks;
 use las_survey::Survey;
-use plain_picture::nearest_words;
 use ppm_out::{HEADER, ppm_header};
 use resolve_colour::colours;
+use splat_workers::nearest_words;
 use std::alloc::Global;
 use std::sync::Arc;
 use std::thread::Threads;
@@ -22,20 +23,23 @@ use view_text::ViewSpec;
 pub struct Scene {
     /// The survey.
     pub survey: Arc<Survey>,
+    /// Its records in blocks. The picture is the same for each way of cutting them.
+    pub blocks: Blocks,
     /// How many workers draw a picture, 1 to 64. The picture is the same for each number.
     pub workers: u32,
 }
 
 /// Appends the whole picture of a survey under these classes, as a binary PPM of
-/// `ppm_length(width, height)` bytes. One loop draws it all, so nobody beside is told anything. A
-/// refusal is want of memory and leaves what was there as it was.
+/// `ppm_length(width, height)` bytes. The scene's workers draw it side by side, and `beside` is told
+/// of each block that one of them claimed. A refusal is want of memory and leaves what was there as
+/// it was.
 pub fn picture<R: Threads + Sync, B: Beside>(
     alloc: Global,
-    _rt: &R,
+    rt: &R,
     scene: &Scene,
     classes: &Classes,
     view: &ViewSpec,
-    _beside: &B,
+    beside: &B,
     out: &mut Bytes,
 ) -> Result<(), OutOfMemory>
     requires scene { IsScene scene.now }
@@ -49,7 +53,16 @@ pub fn picture<R: Threads + Sync, B: Beside>(
     ensures refused { OnErr result (out.new.items ≡ out.old.items) }
 {
     let survey = &*scene.survey;
-    let words = nearest_words(alloc, survey, classes, view)?;
+    let words = nearest_words(
+        alloc,
+        rt,
+        survey,
+        classes,
+        &scene.blocks,
+        view,
+        scene.workers,
+        beside,
+    )?;
     out.reserve(HEADER + 3 * words.len())?;
     ppm_header(view.camera.width(), view.camera.height(), out);
     colours(&words, survey, classes, view.colouring, out);

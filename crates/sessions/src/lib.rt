@@ -5,6 +5,7 @@
 mod counting;
 mod drawing;
 mod end;
+mod filtering;
 mod heads;
 mod serving;
 mod world;

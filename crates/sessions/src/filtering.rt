@@ -12,7 +12,7 @@ use las_survey::Survey;
 /// on them.
 #[inline]
 #[tactic(auto, unfolding(view_meaning::specs::Classes::passes))]
-pub fn passes(survey: &Survey, classes: &Classes, filter: &Filter, number: u32) -> bool
+pub(crate) fn passes(survey: &Survey, classes: &Classes, filter: &Filter, number: u32) -> bool
     requires number { number < record_count survey.now }
     requires records { length classes.now ≡ record_count survey.now }
     ensures { result ≡ passes survey.now classes.now filter.now number }
