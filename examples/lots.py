@@ -11,12 +11,8 @@ import types
 
 import assemble
 import reference_draw
+from session_lines import DEEPEST, GREATEST, LEAST, PARTS, SCALES, greatest_class
 
-# Least and greatest coordinate, part of a vector, and K by the kind of camera; T has that of `ortho`.
-LEAST, GREATEST = -(2**31), 2**31 - 1
-PARTS = (-32768, 32767)
-SCALES = {"ortho": 2**40, "persp": 2**20}
-DEEPEST = 2**32 - 2
 RGB = [form for form, parts in assemble.FORMATS.items() if parts[2]]
 COLOURINGS = ("class", "rgb16", "rgb8", "intensity")
 SIZES = {
@@ -29,10 +25,6 @@ SIZES = {
 
 Survey = collections.namedtuple("Survey", "name format points")
 View = collections.namedtuple("View", "kind numbers colouring list classes hides")
-
-
-def greatest_class(form):
-    return 255 if assemble.FORMATS[form][0] else 31
 
 
 def shade(lots):
