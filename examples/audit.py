@@ -316,14 +316,17 @@ def moves(place, tails, edit, version):
             yield (*place[:number], at + 1, *place[number + 1 :])
 
 
-def audit(survey, edits, sessions):
-    """Finds what is wrong in the sessions; gives the journal's edits without a reply, and what is wrong with it."""
+def audit(survey_name, journal_name, pairs):
+    """The sessions with what is wrong in each, the journal's edits, how many of them have no reply, and what is wrong there."""
+    survey = Survey(read_bytes(survey_name), survey_name)
+    edits = read_journal(read_bytes(journal_name), journal_name, survey.head.format)
+    sessions = [Session(number, names, survey.head.format) for number, names in enumerate(pairs, 1)]
     for session in sessions:
         read_answers(session, survey, edits)
     check_contents(sessions, survey, edits)
-    unanswered, text = check_owners(sessions, edits)
+    unanswered, fault = check_owners(sessions, edits)
     # Where a session is wrong it is told there.
-    return unanswered, None if any(session.fault for session in sessions) else text
+    return sessions, edits, unanswered, None if any(session.fault for session in sessions) else fault
 
 
 def told(session):
@@ -350,11 +353,7 @@ def words():
 
 def main():
     given = words()
-    survey = Survey(read_bytes(given.survey), given.survey)
-    edits = read_journal(read_bytes(given.journal), given.journal, survey.head.format)
-    pairs = list(zip(given.ends[::2], given.ends[1::2]))
-    sessions = [Session(number, names, survey.head.format) for number, names in enumerate(pairs, 1)]
-    unanswered, journal_fault = audit(survey, edits, sessions)
+    sessions, edits, unanswered, journal_fault = audit(given.survey, given.journal, list(zip(given.ends[::2], given.ends[1::2])))
     for session in sessions:
         print(told(session), flush=True)
     faults = sum(bool(session.fault or given.finished and session.early()) for session in sessions)

@@ -16,7 +16,7 @@ SCALES = {"ortho": 2**40, "persp": 2**20}
 DEEPEST = 2**32 - 2
 MOST_PIXELS = 9437184
 
-# What a line asks for. `classes` is a set; a box has both its corners in it.
+# What a line asks for. `classes` is a frozen set; a box has both its corners in it.
 View = collections.namedtuple("View", "kind numbers colouring classes hides")
 Edit = collections.namedtuple("Edit", "least greatest classes to")
 Count = collections.namedtuple("Count", "classes hides")
@@ -59,7 +59,7 @@ def filter_of(words):
     if len(words) != 2 or words[1] not in ("show", "hide"):
         return None
     classes = classes_of(words[0])
-    return None if classes is None else (classes, words[1] == "hide")
+    return None if classes is None else (frozenset(classes), words[1] == "hide")
 
 
 def count(words, _):
@@ -103,7 +103,7 @@ def edit(words, form):
     box, classes, to = numbers_of(words[:6]), classes_of(words[6]), int(words[7])
     if box is None or classes is None or not all(LEAST <= number <= GREATEST for number in box):
         return Refused(1)
-    return Edit(tuple(box[:3]), tuple(box[3:]), classes, to) if to <= greatest_class(form) else Refused(4)
+    return Edit(tuple(box[:3]), tuple(box[3:]), frozenset(classes), to) if to <= greatest_class(form) else Refused(4)
 
 
 def class_list(classes):
