@@ -44,10 +44,10 @@ def items(data, form):
 
 
 def asked(line, form):
-    """What a line with words asks for, or the first code by which it is refused."""
+    """What a line asks for, or the first code by which it is refused."""
     if len(line) > LONGEST_LINE:
         return Refused(1)
-    name, *words = [word.decode("latin-1") for word in re.split(b"[ \t]+", line) if word]
+    name, *words = [word.decode("latin-1") for word in re.split(b"[ \t]+", line) if word] or [""]
     if name == "save" and not words:
         return Save()
     read = {"view": view, "edit": edit, "count": count}.get(name)

@@ -198,7 +198,9 @@ def too_long(run, lots):
     """One session has a byte too much: what ends among the first bytes is answered, and the others finish."""
     number = lots.randrange(SESSIONS)
     front = run.scripts[number].rstrip(b"\n") + b"\nedit 0 0 0 9 9 9 all 1\n"
-    run.scripts[number] = front + b" " * 4000 + b"\n" * (MOST_BYTES - len(front) - 4000 - 4) + b"save\n"
+    lines, rest = divmod(MOST_BYTES - 4 - len(front), 4000)
+    # The LF of the last line is the byte too much.
+    run.scripts[number] = front + (b" " * 3999 + b"\n") * lines + b"\n" * rest + b"save\n"
     run.by_pipes([it for it in lots.sample(range(SESSIONS), PIPES) if it != number])
     return run.check((10, f"session input of word {4 + 2 * number} is too long"), {number})
 
