@@ -329,12 +329,17 @@ def audit(survey_name, journal_name, pairs):
     return sessions, edits, unanswered, None if any(session.fault for session in sessions) else fault
 
 
+def counted(number, one, more):
+    return f"{number} {one if number == 1 else more}"
+
+
 def told(session):
     """What was found of a session, in one line."""
     if session.fault:
         return f"session {session.number}: wrong at {session.fault.text}"
     early = session.early()
-    return f"session {session.number}: {len(session.whole())} replies right, {f'ended early: {early}' if early else 'finished'}"
+    right = counted(len(session.whole()), "reply", "replies")
+    return f"session {session.number}: {right} right, {f'ended early: {early}' if early else 'finished'}"
 
 
 def words():
@@ -358,10 +363,11 @@ def main():
         print(told(session), flush=True)
     faults = sum(bool(session.fault or given.finished and session.early()) for session in sessions)
     if faults:
-        raise Wrong(f"{faults} of {len(sessions)} sessions are wrong" + (" or unfinished" if given.finished else ""))
+        kind = "wrong or unfinished" if given.finished else "wrong"
+        raise Wrong(f"{faults} of {counted(len(sessions), 'session is', 'sessions are')} {kind}")
     if journal_fault:
         raise Wrong(f"{given.journal}: {journal_fault}")
-    print(f"journal: {len(edits)} edits, each once" + (f", {unanswered} without its reply" if unanswered else ""))
+    print(f"journal: {counted(len(edits), 'edit', 'edits, each once')}" + (f", {unanswered} without a reply" if unanswered else ""))
 
 
 if __name__ == "__main__":

@@ -10,7 +10,9 @@ marked `console NAME` run in one shell for each name, which stays open as a term
 built first, where it is missing. Ends with 1 where a command prints something else.
 """
 
+import contextlib
 import os
+import signal
 import subprocess
 import sys
 import tempfile
@@ -46,11 +48,12 @@ class Terminal:
 
     def __init__(self, folder):
         pipes = {"stdin": subprocess.PIPE, "stdout": subprocess.PIPE, "stderr": subprocess.STDOUT}
-        self.shell = subprocess.Popen(["bash"], cwd=folder, **pipes)
+        # A session of its own, so that what runs behind goes with it.
+        self.shell = subprocess.Popen(["bash"], cwd=folder, start_new_session=True, **pipes)
 
     def run(self, command):
         """What a command prints."""
-        limit = threading.Timer(LONGEST, self.shell.kill)
+        limit = threading.Timer(LONGEST, self.kill)
         limit.start()
         printed = b""
         try:
@@ -66,8 +69,12 @@ class Terminal:
             limit.cancel()
         return printed + b"(the terminal is gone)"
 
+    def kill(self):
+        with contextlib.suppress(ProcessLookupError):
+            os.killpg(self.shell.pid, signal.SIGKILL)
+
     def close(self):
-        self.shell.kill()
+        self.kill()
         self.shell.communicate()
 
 

@@ -107,7 +107,8 @@ class Right(Audits):
             line = (1, 2, 3, 4, 7, 8)[whole]
             early = f"the reply to line {line} breaks off after {cut} bytes" if cut else f"line {line} has no reply"
             told, unanswered, fault = self.found(outs=(OUTS[0][:length], OUTS[1]))
-            self.assertEqual(told[0], f"session 1: {whole} replies right, ended early: {early}")
+            replies = "1 reply" if whole == 1 else f"{whole} replies"
+            self.assertEqual(told[0], f"session 1: {replies} right, ended early: {early}")
             self.assertEqual(told[1], "session 2: 8 replies right, finished")
             self.assertEqual((unanswered, fault), (sum(edit >= whole for edit in edits), None))
 
@@ -119,16 +120,16 @@ class Right(Audits):
 
     def test_edits_without_their_replies_are_counted(self):
         status, told, _ = self.end(outs=(OUTS[0][:30], OUTS[1]))
-        self.assertEqual((status, told.splitlines()[2]), (0, "journal: 3 edits, each once, 1 without its reply"))
+        self.assertEqual((status, told.splitlines()[2]), (0, "journal: 3 edits, each once, 1 without a reply"))
 
     def test_an_input_that_is_too_long_is_answered_to_its_last_whole_line(self):
         # The first line ends with byte 2^20, the last ends beyond it or not at all.
         for tail in (b"save\n", b"save", b"\n"):
             scripts = (blank(2**20 - 13) + b"count 2 show\n" + tail,)
             told, _, _ = self.found(scripts=scripts, outs=(b"COUNT 0 2\n",), journal=b"")
-            self.assertEqual(told, ["session 1: 1 replies right, ended early: its input has more than 1048576 bytes"])
+            self.assertEqual(told, ["session 1: 1 reply right, ended early: its input has more than 1048576 bytes"])
         told, _, _ = self.found(scripts=(blank(2**20 - 12) + b"count 2 show",), outs=(b"COUNT 0 2\n",), journal=b"")
-        self.assertEqual(told, ["session 1: 1 replies right, finished"])
+        self.assertEqual(told, ["session 1: 1 reply right, finished"])
 
     def test_replies_to_a_device_are_not_there(self):
         os.symlink("/dev/full", os.path.join(self.folder, "full"))
@@ -238,7 +239,7 @@ class Planted(Audits):
     def test_an_edit_of_two_sessions(self):
         line, told = b"edit 0 0 0 9 9 9 all 1\n", b"EDITED 1 4\n"
         found, _, _ = self.found(scripts=(line, line), journal=line, outs=(told, told))
-        self.assertEqual(found[0], "session 1: 1 replies right, finished")
+        self.assertEqual(found[0], "session 1: 1 reply right, finished")
         self.assertIn("version 1 is the edit of a line of session 1 already", found[1])
 
     def test_an_edit_that_stands_twice_in_the_journal(self):
