@@ -364,7 +364,7 @@ def main():
     faults = sum(bool(session.fault or given.finished and session.early()) for session in sessions)
     if faults:
         kind = "wrong or unfinished" if given.finished else "wrong"
-        raise Wrong(f"{faults} of {counted(len(sessions), 'session is', 'sessions are')} {kind}")
+        raise Wrong(f"{faults} of {counted(len(sessions), 'session', 'sessions')} {'is' if faults == 1 else 'are'} {kind}")
     if journal_fault:
         raise Wrong(f"{given.journal}: {journal_fault}")
     print(f"journal: {counted(len(edits), 'edit', 'edits, each once')}" + (f", {unanswered} without a reply" if unanswered else ""))

@@ -116,7 +116,7 @@ class Right(Audits):
         outs = (OUTS[0][:-1], OUTS[1])
         told = "session 1: 5 replies right, ended early: the reply to line 8 breaks off after 465 bytes\nsession 2: 8 replies right, finished\n"
         self.assertEqual(self.end(outs=outs), (0, told + "journal: 3 edits, each once\n", ""))
-        self.assertEqual(self.end("--finished", outs=outs), (1, told, "audit.py: 1 of 2 sessions are wrong or unfinished\n"))
+        self.assertEqual(self.end("--finished", outs=outs), (1, told, "audit.py: 1 of 2 sessions is wrong or unfinished\n"))
 
     def test_edits_without_their_replies_are_counted(self):
         status, told, _ = self.end(outs=(OUTS[0][:30], OUTS[1]))
@@ -199,7 +199,7 @@ class Planted(Audits):
         self.wrong(0, b"COUNT 0 2\n", b"", "line 1 ('count 2 show'), byte 0 of o1: ", said)
         # At the end it is as if the session had ended early.
         status, _, told = self.end("--finished", outs=(OUTS[0], OUTS[1].removesuffix(b"REFUSED 4\n")))
-        self.assertEqual((status, told), (1, "audit.py: 1 of 2 sessions are wrong or unfinished\n"))
+        self.assertEqual((status, told), (1, "audit.py: 1 of 2 sessions is wrong or unfinished\n"))
 
     def test_a_reply_too_much(self):
         self.wrong(1, b"REFUSED 4\n", b"REFUSED 4\nREFUSED 1\n", "byte 107 of o2: 10 bytes follow the reply to the last line")
