@@ -39,15 +39,12 @@ def dot(a, b):
     return sum(x * y for x, y in zip(a, b))
 
 
-def class_colour(point):
-    return (67 * point.kind + 64) % 256, (131 * point.kind + 128) % 256, (29 * point.kind + 192) % 256
-
-
+# Red, green and blue of a record that is shown as one of this class.
 COLOURS = {
-    "class": class_colour,
-    "rgb16": lambda point: [it // 256 for it in point.rgb],
-    "rgb8": lambda point: [min(it, 255) for it in point.rgb],
-    "intensity": lambda point: [point.intensity // 256] * 3,
+    "class": lambda _, kind: ((67 * kind + 64) % 256, (131 * kind + 128) % 256, (29 * kind + 192) % 256),
+    "rgb16": lambda point, _: [it // 256 for it in point.rgb],
+    "rgb8": lambda point, _: [min(it, 255) for it in point.rgb],
+    "intensity": lambda point, _: [point.intensity // 256] * 3,
 }
 
 
@@ -80,10 +77,8 @@ def picture(points, numbers, kind="ortho", colouring="class", classes=range(256)
     near, far = numbers[16:18]
     spot_of = spots(kind, numbers)
     depths, shown = {}, {}
-    for point, its_kind in zip(points, kinds) if kinds is not None else ((point, point.kind) for point in points):
-        if its_kind not in classes or hides and point.withheld:
-            continue
-        at = spot_of(point.place)
+    for point, its_kind in ((point, point.kind) for point in points) if kinds is None else zip(points, kinds):
+        at = spot_of(point.place) if its_kind in classes and not (hides and point.withheld) else None
         if at is None:
             continue
         column, row, depth = at
@@ -92,9 +87,9 @@ def picture(points, numbers, kind="ortho", colouring="class", classes=range(256)
             # A later record at an equal depth doesn't show.
             if depth < depths.get(pixel, far + 1):
                 depths[pixel], shown[pixel] = depth, (point, its_kind)
-    pixels = bytearray(3 * width * height)
-    for pixel, (point, its_kind) in shown.items():
-        pixels[3 * pixel : 3 * pixel + 3] = bytes(COLOURS[colouring](point._replace(kind=its_kind)))
+    pixels, colour = bytearray(3 * width * height), COLOURS[colouring]
+    for pixel, it in shown.items():
+        pixels[3 * pixel : 3 * pixel + 3] = bytes(colour(*it))
     return b"P6\n%d %d\n255\n" % (width, height) + pixels
 
 
