@@ -5,9 +5,10 @@
 
 In each run a survey and the scripts of sixteen sessions are drawn by lot: edits, views, counts, saves and
 lines that are refused. Three of them come over named pipes, from a peer that reads each reply before it
-writes its next line. In two more runs sessions end early: one whose replies go to a full device, and one
-whose input is too long; there the others have to finish. The lots are the same for the same seed, the order
-in which the program takes the lines isn't. Ends with 1 at the first run that is wrong, and leaves its files.
+writes its next line. In three more runs one session ends early, since its replies go to a full device, its
+peer goes away, or its input is too long; there the others have to finish. The lots are the same for the
+same seed, the order in which the program takes the lines isn't. Ends with 1 at the first run that is wrong,
+and leaves its files.
 """
 
 import collections
@@ -87,17 +88,18 @@ class Peer(threading.Thread):
     def run(self):
         # The program opens them in this order too.
         with open(self.names[0], "wb", 0) as to, open(self.names[1], "rb") as come, open(self.names[2], "wb") as kept:
-            lines = self.text.split(b"\n")
-            for number, text in enumerate(lines, 1):
-                # A last line without LF is answered when the input ends.
-                if number == len(lines):
-                    to.write(text)
-                    break
-                to.write(text + b"\n")
-                if number in self.answered:
-                    self.keep_reply(come, kept)
-            to.close()
-            kept.write(come.read())
+            self.talk(to, come, kept)
+
+    def talk(self, to, come, kept):
+        lines = self.text.split(b"\n")
+        for number, text in enumerate(lines[:-1], 1):
+            to.write(text + b"\n")
+            if number in self.answered:
+                self.keep_reply(come, kept)
+        # A last line without LF is answered when the input ends.
+        to.write(lines[-1])
+        to.close()
+        kept.write(come.read())
 
     @staticmethod
     def keep_reply(come, kept):
@@ -105,6 +107,14 @@ class Peer(threading.Thread):
         kept.write(head)
         if found := replies.HEAD.fullmatch(head):
             kept.write(come.read(int(found[3] or 0)))
+
+
+class Leaver(Peer):
+    """Writes all its lines, and goes away when it has read one reply."""
+
+    def talk(self, to, come, kept):
+        to.write(self.text)
+        self.keep_reply(come, kept)
 
 
 class Run:
@@ -116,26 +126,27 @@ class Run:
         self.made = survey(lots, folder, self.form, lots.choice(SIZES), lots.choice((1, 60, 200, 1500)))
         self.workers = lots.choice((1, 2, 4, 64))
         self.scripts = [script(lots, self.made, count) for _ in range(SESSIONS)]
-        self.outs = {}
+        self.ends = {}
 
     def path(self, name):
         return os.path.join(self.folder, name)
 
-    def by_pipes(self, numbers):
-        """Lets these sessions come over named pipes."""
+    def by_pipes(self, numbers, kind=Peer):
+        """Lets these sessions come over named pipes, from a peer of this kind."""
         for number in numbers:
             ends = [self.path(f"{number}.{name}") for name in ("to", "come", "out")]
-            self.peers.append(Peer(self.scripts[number], self.form, *ends))
-            self.outs[number] = ends[:2]
+            self.peers.append(kind(self.scripts[number], self.form, *ends))
+            self.ends[number] = ends[:2]
 
     def end(self):
         """The status of the run, and the first line that it told."""
         for number, text in enumerate(self.scripts):
-            with open(self.path(f"{number}.in"), "wb") as file:
-                file.write(text)
+            for name, data in ((f"{number}.in", text), (f"{number}.out", b"")):
+                with open(self.path(name), "wb") as file:
+                    file.write(data)
         words = ["serve", self.path("survey.las"), str(self.workers), self.path("journal")]
         for number in range(SESSIONS):
-            words += self.outs.get(number) or [self.path(f"{number}.in"), self.path(f"{number}.out")]
+            words += self.ends.get(number) or [self.path(f"{number}.in"), self.path(f"{number}.out")]
         for peer in self.peers:
             peer.start()
         try:
@@ -154,8 +165,6 @@ class Run:
         if ended != wanted:
             raise Wrong(f"the run ended with {ended}, and not with {wanted}")
         pairs = [(self.path(f"{number}.in"), self.path(f"{number}.out")) for number in range(SESSIONS)]
-        for number in early:
-            pairs[number] = (pairs[number][0], (self.outs.get(number) or pairs[number])[1])
         sessions, edits, unanswered, fault = audit.audit(self.path("survey.las"), self.path("journal"), pairs)
         for number, session in enumerate(sessions):
             if session.fault or bool(session.early()) != (number in early):
@@ -187,11 +196,19 @@ def full_device(run, lots):
     """One session can't write: its first edit is in the journal, and the others finish."""
     number = lots.randrange(SESSIONS)
     run.scripts[number] = b"edit 0 0 0 9 9 9 all 1\n" * 9
-    run.outs[number] = [run.path(f"{number}.in"), "/dev/full"]
+    run.ends[number] = [run.path(f"{number}.in"), "/dev/full"]
     found = run.check((9, f"cannot write word {5 + 2 * number}"), {number})
     if found["unanswered"] != 1:
         raise Wrong(f"{found['unanswered']} edits of a session that can't write are in the journal, and not 1")
     return found
+
+
+def gone(run, lots):
+    """One peer goes away and leaves more replies than a pipe holds; the others finish."""
+    number = lots.randrange(SESSIONS)
+    run.scripts[number] = b"save\n" * 400
+    run.by_pipes([number], Leaver)
+    return run.check((9, f"cannot write word {5 + 2 * number}"), {number})
 
 
 def too_long(run, lots):
@@ -215,7 +232,7 @@ def words():
 
 def main():
     given = words()
-    kinds = [plain] * given.runs + [full_device] * os.path.exists("/dev/full") + [too_long]
+    kinds = [plain] * given.runs + [full_device] * os.path.exists("/dev/full") + [gone, too_long]
     total = collections.Counter()
     for number, kind in enumerate(kinds, 1):
         lots, folder = random.Random(f"{given.seed} {number}"), tempfile.mkdtemp()
