@@ -24,7 +24,7 @@ ROOT = os.path.dirname(os.path.dirname(os.path.realpath(__file__)))
 # Stands behind what a command prints in a terminal.
 MARK = "the command has ended"
 # Seconds that a command in a terminal may take.
-LONGEST = 120
+LONGEST = 60
 
 
 def steps(text):
