@@ -14,7 +14,8 @@ here from SURVEY and JOURNAL alone, with the pictures of reference_draw.py.
 
 A session that ended early (a device that filled up, a peer that went away, an input of more than 1048576
 bytes, want of memory) has a front of its replies: that is told, and with --finished it is wrong too. Of an
-OUT that is a device no replies are left. One name may be `-`, for standard input.
+OUT that is a device no replies are left. One name may be `-`, for standard input. A record takes some 500
+bytes of memory.
 
 Ends with 0 where nothing is wrong, and with 1 where something is.
 """
@@ -27,7 +28,7 @@ import stat
 
 import reference_draw
 from script_ends import Words, Wrong, read_bytes, run
-from session_lines import MOST_BYTES, Count, Edit, Refused, Save, View, canonical, items, asked
+from session_lines import MOST_BYTES, Count, Edit, Refused, Save, View, asked, canonical, items
 from survey_head import class_bits, head
 
 HEADS = {View: b"PICTURE", Edit: b"EDITED", Count: b"COUNT", Save: b"FILE"}
