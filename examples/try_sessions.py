@@ -124,7 +124,7 @@ class Run:
         self.program, self.folder, self.peers = program, folder, []
         self.form = lots.choice(list(assemble.FORMATS))
         self.made = survey(lots, folder, self.form, lots.choice(SIZES), lots.choice((1, 60, 200, 1500)))
-        self.workers = lots.choice((1, 2, 4, 64))
+        self.workers = lots.choice((1, 2, 4, 8))
         self.scripts = [script(lots, self.made, count) for _ in range(SESSIONS)]
         self.ends = {}
 
