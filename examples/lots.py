@@ -11,12 +11,8 @@ import types
 
 import assemble
 import reference_draw
+from session_lines import DEEPEST, GREATEST, LEAST, PARTS, SCALES, greatest_class
 
-# Least and greatest coordinate, part of a vector, and K by the kind of camera; T has that of `ortho`.
-LEAST, GREATEST = -(2**31), 2**31 - 1
-PARTS = (-32768, 32767)
-SCALES = {"ortho": 2**40, "persp": 2**20}
-DEEPEST = 2**32 - 2
 RGB = [form for form, parts in assemble.FORMATS.items() if parts[2]]
 COLOURINGS = ("class", "rgb16", "rgb8", "intensity")
 SIZES = {
@@ -29,10 +25,6 @@ SIZES = {
 
 Survey = collections.namedtuple("Survey", "name format points")
 View = collections.namedtuple("View", "kind numbers colouring list classes hides")
-
-
-def greatest_class(form):
-    return 255 if assemble.FORMATS[form][0] else 31
 
 
 def shade(lots):
@@ -185,3 +177,18 @@ def view(lots, made):
     return View(kind, numbers, colouring, *class_list(lots, greatest_class(made.format)), lots.random() < 0.5)
 
 
+def view_words(lots, seen):
+    """The words of a view, some numbers with zeros before them."""
+    numbers = [f"{number:0{lots.choice((1, 1, 1, 12))}d}" for number in seen.numbers]
+    return [seen.kind, *numbers, seen.colouring, seen.list, "hide" if seen.hides else "show"]
+
+
+def edit(lots, made):
+    """An edit line between places of records, with its box by axes, its classes and the new one, which may be too great."""
+    top = greatest_class(made.format)
+    word, classes = class_list(lots, top)
+    to = lots.choice((0, 2, top, lots.randint(0, top), lots.randint(0, 255)))
+    axes = [[point.place[axis] for point in made.points] + [LEAST, GREATEST] for axis in range(3)]
+    box = [sorted((lots.choice(axis), lots.choice(axis))) for axis in axes]
+    text = f"edit {' '.join(str(low) for low, _ in box)} {' '.join(str(high) for _, high in box)} {word} {to}"
+    return text, box, classes, to

@@ -39,47 +39,57 @@ def dot(a, b):
     return sum(x * y for x, y in zip(a, b))
 
 
-def class_colour(point):
-    return (67 * point.kind + 64) % 256, (131 * point.kind + 128) % 256, (29 * point.kind + 192) % 256
-
-
+# Red, green and blue of a record that is shown as one of this class.
 COLOURS = {
-    "class": class_colour,
-    "rgb16": lambda point: [it // 256 for it in point.rgb],
-    "rgb8": lambda point: [min(it, 255) for it in point.rgb],
-    "intensity": lambda point: [point.intensity // 256] * 3,
+    "class": lambda _, kind: ((67 * kind + 64) % 256, (131 * kind + 128) % 256, (29 * kind + 192) % 256),
+    "rgb16": lambda point, _: [it // 256 for it in point.rgb],
+    "rgb8": lambda point, _: [min(it, 255) for it in point.rgb],
+    "intensity": lambda point, _: [point.intensity // 256] * 3,
 }
 
 
-def spot(kind, numbers, place):
-    """Column, row and depth of a place, or nothing where it is not ahead of an eye in perspective."""
-    width, height = numbers[0:2]
-    eye, right, down, forward = (numbers[i : i + 3] for i in (2, 5, 8, 11))
+def spots(kind, numbers):
+    """What gives column, row and depth of a place, or nothing where it is not ahead of an eye in perspective."""
+    half_width, half_height = numbers[0] // 2, numbers[1] // 2
+    (at_x, at_y, at_z), (rx, ry, rz), (dx, dy, dz), (fx, fy, fz) = (numbers[i : i + 3] for i in (2, 5, 8, 11))
     scale, unit = numbers[14:16]
-    offset = [p - e for p, e in zip(place, eye)]
-    a, b, z = dot(right, offset), dot(down, offset), dot(forward, offset)
-    if kind == "persp":
-        if z <= 0:
+
+    def spot_of(place):
+        x, y, z = place[0] - at_x, place[1] - at_y, place[2] - at_z
+        a, b, ahead = rx * x + ry * y + rz * z, dx * x + dy * y + dz * z, fx * x + fy * y + fz * z
+        if kind != "persp":
+            return a // scale + half_width, b // scale + half_height, ahead // unit
+        if ahead <= 0:
             return None
-        a, b, scale = a * scale, b * scale, z
-    return a // scale + width // 2, b // scale + height // 2, z // unit
+        return a * scale // ahead + half_width, b * scale // ahead + half_height, ahead // unit
+
+    return spot_of
 
 
-def picture(points, numbers, kind="ortho", colouring="class", classes=range(256), hides=False):
+def spot(kind, numbers, place):
+    """Column, row and depth of one place, or nothing."""
+    return spots(kind, numbers)(place)
+
+
+def picture(points, numbers, kind="ortho", colouring="class", classes=range(256), hides=False, kinds=None):
+    """The picture of these points, by their own classes or by others, one for each."""
     width, height = numbers[0:2]
     near, far = numbers[16:18]
-    depths, pixels = {}, bytearray(3 * width * height)
-    for point in points:
-        at = spot(kind, numbers, point.place)
-        if at is None or point.kind not in classes or hides and point.withheld:
+    spot_of = spots(kind, numbers)
+    depths, shown = {}, {}
+    for point, its_kind in ((point, point.kind) for point in points) if kinds is None else zip(points, kinds):
+        at = spot_of(point.place) if its_kind in classes and not (hides and point.withheld) else None
+        if at is None:
             continue
         column, row, depth = at
         if 0 <= column < width and 0 <= row < height and near <= depth <= far:
             pixel = row * width + column
             # A later record at an equal depth doesn't show.
             if depth < depths.get(pixel, far + 1):
-                depths[pixel] = depth
-                pixels[3 * pixel : 3 * pixel + 3] = bytes(COLOURS[colouring](point))
+                depths[pixel], shown[pixel] = depth, (point, its_kind)
+    pixels, colour = bytearray(3 * width * height), COLOURS[colouring]
+    for pixel, it in shown.items():
+        pixels[3 * pixel : 3 * pixel + 3] = bytes(colour(*it))
     return b"P6\n%d %d\n255\n" % (width, height) + pixels
 
 

@@ -19,6 +19,7 @@ without words have no reply, so the number of a line can be above that of its re
 import re
 import sys
 
+import session_lines
 from script_ends import Words, Wrong, open_bytes, read_bytes, run, write_bytes
 
 HEAD = re.compile(rb"((PICTURE|FILE) [0-9]{1,20} ([0-9]{1,10})|(EDITED|COUNT) [0-9]{1,20} [0-9]{1,20}|(REFUSED) ([0-9]{1,3}))\n")
@@ -72,11 +73,8 @@ def take(stream, name, wanted, whole=False):
 
 def answered(script):
     """The number and the text of each line that has a reply."""
-    lines = script.split(b"\n")
-    for number, line in enumerate(lines if lines[-1] else lines[:-1], 1):
-        # A line of more than 4096 bytes is refused whatever it holds.
-        if len(line) > 4096 or line.removesuffix(b"\r").strip(b" \t"):
-            yield number, line.removesuffix(b"\r").decode("utf-8", "replace")
+    for number, line in session_lines.answered(script):
+        yield number, line.decode("utf-8", "replace")
 
 
 def reply_of_line(line, script):

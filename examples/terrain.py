@@ -11,6 +11,8 @@ have walls and gable roofs, trees (class 5) are cones. Only sums, products, quot
 roots are used, so that each machine writes the same bytes.
 """
 
+import array
+import itertools
 import math
 import os
 import signal
@@ -28,8 +30,10 @@ CONTOUR, INDEX_CONTOUR = 5, 25  # metres of height between contour lines, and be
 GRID = 8  # metres between the measured ground points where no contour line runs
 STREAM = 5  # metres from the middle of the stream to each bank
 TREES = 220
-BAND = 20  # rows that are made at a time
+BAND = 34  # rows that are made at a time
 RECORD = struct.Struct("<3iHBBbBH")
+# Between which contour lines, and which thick ones, a height of so many whole metres lies.
+BETWEEN, BETWEEN_THICK = (bytes(metres // step for metres in range(256)) for step in (CONTOUR, INDEX_CONTOUR))
 
 # Middle (x, y), half widths (x, y) and height of each hill, in metres.
 HILLS = [
@@ -83,24 +87,28 @@ def stream_middle(y):
 
 def column(x):
     """What the height of the ground takes from x alone: x, a term for each hill, and two of the unevenness."""
-    return x, *(1 + square((x - at_x) / half_x) for at_x, _, half_x, _, _ in HILLS), x / 97, wave(x / 113) / 3
+    return float(x), *(1 + square((x - at_x) / half_x) for at_x, _, half_x, _, _ in HILLS), x / 97, wave(x / 113) / 3
 
 
 def heights(columns, y):
-    """Heights of the ground in metres at these columns of a row. All bytes rest on the order of sums and products."""
+    """Heights of the ground in metres at these columns of a row. All bytes rest on the order of sums and products.
+
+    The numbers are floats throughout: Python takes longer over an int among them.
+    """
     v1, v2, v3, v4, v5, v6 = (square((y - at_y) / half_y) for _, at_y, _, half_y, _ in HILLS)
-    t1, t2, t3, t4, t5, t6 = (top for *_, top in HILLS)
+    t1, t2, t3, t4, t5, t6 = (float(top) for *_, top in HILLS)
     level, middle, tilt, row = 20 + y / 60, stream_middle(y), wave(y / 131) / 3, y / 83
     found = []
     for x, u1, u2, u3, u4, u5, u6, s, t in columns:
-        far = (x - middle) / 70
-        n1, n2, n3, n4, n5, n6 = 1 / (u1 + v1), 1 / (u2 + v2), 1 / (u3 + v3), 1 / (u4 + v4), 1 / (u5 + v5), 1 / (u6 + v6)
+        far = (x - middle) / 70.0
+        n1, n2, n3 = 1.0 / (u1 + v1), 1.0 / (u2 + v2), 1.0 / (u3 + v3)
+        n4, n5, n6 = 1.0 / (u4 + v4), 1.0 / (u5 + v5), 1.0 / (u6 + v6)
         hills = t1 * n1 * n1 + t2 * n2 * n2 + t3 * n3 * n3 + t4 * n4 * n4 + t5 * n5 * n5 + t6 * n6 * n6
         # A small unevenness between -1 and 1, by two waves.
-        s, t = (s + tilt) % 2, (row + t) % 2
-        s = 4 * s * (1 - s) if s < 1 else -4 * (s - 1) * (2 - s)
-        t = 4 * t * (1 - t) if t < 1 else -4 * (t - 1) * (2 - t)
-        found.append(level + hills - 12 / (1 + far * far) + 2 * (0.5 * s + 0.5 * t))
+        s, t = (s + tilt) % 2.0, (row + t) % 2.0
+        s = 4.0 * s * (1.0 - s) if s < 1.0 else -4.0 * (s - 1.0) * (2.0 - s)
+        t = 4.0 * t * (1.0 - t) if t < 1.0 else -4.0 * (t - 1.0) * (2.0 - t)
+        found.append(level + hills - 12.0 / (1.0 + far * far) + 2.0 * (0.5 * s + 0.5 * t))
     return found
 
 
@@ -121,34 +129,56 @@ def ground(rows):
     # Two rows and columns more than the survey has, for the neighbours of its last metres.
     columns = [column(x) for x in range(EAST + 2)]
     places = [heights(columns, y) for y in range(rows[0], rows[1] + 2)]
-    thin, thick = ([[it // step for it in row] for row in places] for step in (CONTOUR, INDEX_CONTOUR))
+    metres = [bytes(map(int, row)) for row in places]
+    thin, thick = ([row.translate(table) for row in metres] for table in (BETWEEN, BETWEEN_THICK))
     found = []
     for k, y in enumerate(range(*rows)):
-        middle = stream_middle(y)
-        # Within two metres of a building nothing is measured.
-        houses = [range(at - 2, at + long + 2) for at, south, long, wide, _ in BUILDINGS if south - 2 <= y < south + wide + 2]
         # A contour line runs between here and a metre east or north, a thick one within two metres.
-        near = zip(places[k], thin[k], thin[k][1:], thin[k + 1], thick[k], thick[k][2:], thick[k + 2])
-        for x, (high, here, east, north, wide, wide_east, wide_north) in enumerate(near):
-            off = abs(x - middle) - STREAM
-            on_contour = here != east or here != north or wide != wide_east or wide != wide_north
-            measured = on_contour or off < 1.5 or x % GRID == y % GRID == 0
-            if measured and off >= 0 and not any(x in it for it in houses):
-                found.append(record(x, y, high, GROUND))
-    return found
+        sides = differing(thin[k], thin[k][1:], thin[k + 1]) | differing(thick[k], thick[k][2:], thick[k + 2])
+        for x in itertools.compress(range(EAST), measured(y, bytearray(sides.to_bytes(EAST, "big")))):
+            found.append(record(x, y, places[k][x], GROUND))
+    return b"".join(found)
 
 
-def in_bands(bands):
-    """The records of the ground by bands of rows, made side by side where there are processors for it."""
+def differing(row, *others):
+    """A row of bytes as one number, in which those aren't 0 where it differs from another row."""
+    here, *there = (int.from_bytes(it[:EAST], "big") for it in (row, *others))
+    return (here ^ there[0]) | (here ^ there[1])
+
+
+def measured(y, on_contour):
+    """Where a row is measured, of which this says where a contour line runs."""
+    if y % GRID == 0:
+        on_contour[::GRID] = b"\1" * len(on_contour[::GRID])
+    middle = stream_middle(y)
+    for x in range(int(middle) - STREAM - 3, int(middle) + STREAM + 4):
+        off = abs(x - middle) - STREAM
+        # The banks are, and the water isn't.
+        if off < 1.5:
+            on_contour[x] = off >= 0
+    # Within two metres of a building nothing is.
+    for at, south, long, wide, _ in BUILDINGS:
+        if south - 2 <= y < south + wide + 2:
+            on_contour[at - 2 : at + long + 2] = bytes(long + 4)
+    return on_contour
+
+
+def part(rows):
+    """The records of some rows of the ground, or without rows those of buildings and trees."""
+    return ground(rows) if rows else b"".join(record(*it) for it in (*buildings(), *trees()))
+
+
+def side_by_side(bands):
+    """The parts of these rows, made at the same time where there are processors for it."""
     count = len(os.sched_getaffinity(0)) if hasattr(os, "sched_getaffinity") else os.cpu_count() or 1
     if count > 1:
         try:
             # An interrupt ends this process, and with it the others.
             with ProcessPoolExecutor(count, initializer=signal.signal, initargs=(signal.SIGINT, signal.SIG_IGN)) as pool:
-                return list(watched(pool.map(ground, bands), len(bands)))
+                return list(watched(pool.map(part, bands), len(bands)))
         except (ImportError, NotImplementedError, OSError, BrokenExecutor):
             pass
-    return list(watched(map(ground, bands), len(bands)))
+    return list(watched(map(part, bands), len(bands)))
 
 
 def watched(parts, count):
@@ -207,12 +237,15 @@ def record(x, y, z, kind):
     return RECORD.pack(east, north, up, 0, 0b001001, kind, 0, 0, 0)
 
 
-def survey(records):
+def survey(body):
     """The whole file: the public header block of 375 bytes, then the records of 20 bytes."""
-    count, body = len(records), b"".join(records)
+    count, numbers = len(body) // RECORD.size, array.array("i", body)
+    if sys.byteorder == "big":
+        numbers.byteswap()
     bounds = []
-    for values in list(zip(*RECORD.iter_unpack(body)))[:3]:
-        bounds += [max(values) * SCALE, min(values) * SCALE]
+    # A record has the room of five such numbers; the first three are X, Y and Z.
+    for axis in range(3):
+        bounds += [max(numbers[axis::5]) * SCALE, min(numbers[axis::5]) * SCALE]
     header = bytearray(375)
     header[0:4] = b"LASF"
     header[24:26] = bytes((1, 4))
@@ -228,11 +261,11 @@ def main():
     parser = Words(__doc__)
     parser.add_argument("out", metavar="OUT.las")
     out = parser.parse_args().out
-    bands = [(y, min(y + BAND, NORTH)) for y in range(0, NORTH, BAND)]
-    records = [it for band in in_bands(bands) for it in band]
-    records += [record(*it) for part in (buildings(), trees()) for it in part]
-    write_bytes(out, survey(records))
-    print(f"{out}: {len(records)} records", file=sys.stderr if out == "-" else sys.stdout)
+    # What has no rows takes longest, so it comes first.
+    rest, *bands = side_by_side([None, *((y, min(y + BAND, NORTH)) for y in range(0, NORTH, BAND))])
+    body = b"".join((*bands, rest))
+    write_bytes(out, survey(body))
+    print(f"{out}: {len(body) // RECORD.size} records", file=sys.stderr if out == "-" else sys.stdout)
 
 
 if __name__ == "__main__":

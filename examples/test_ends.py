@@ -26,11 +26,18 @@ FILES = {
     "good.las": assemble.plain_file(4, 6),
     "good.ppm": b"P6\n2 1\n255\n" + bytes(6),
     "good.replies": b"FILE 0 3\nabc",
+    "good.play": b"viewer count all show\n",
+    "script": b"count all show\n",
+    "counted": b"COUNT 0 %d\n" % assemble.POINTS,
 }
 BAD = ("missing", "empty", "text", "cut", "short")
 # The words of each script that reads a file, whose place is {}, and the inputs among the bad ones that serve it:
 # damage.py takes any bytes, and where only the header is read, the points may be cut.
 READERS = (
+    ("audit.py {} empty script counted", set()),
+    ("audit.py good.las {} script counted", {"empty"}),
+    ("audit.py good.las empty {} counted", set()),
+    ("audit.py good.las empty script {}", {"empty"}),
     ("aim.py above 9 9 --survey {}", {"short"}),
     ("aim.py above 9 9 --info {}", set()),
     ("class_changes.py {} good.las", set()),
@@ -39,6 +46,7 @@ READERS = (
     ("edit_box.py --survey {} --from 0 0 0 --to 1 1 1 all 2", {"short"}),
     ("header.py {} --json", {"short"}),
     ("picture.py {} out.png", set()),
+    ("play_sessions.py {} made good.play", set()),
     ("picture.py {} out.png --reply last", set()),
     (f"picture.py good.ppm out.png --world {{}} {CAMERA}", {"short"}),
     (f"reference_draw.py draw {{}} out.ppm 1 {CAMERA}", set()),
@@ -49,6 +57,7 @@ READERS = (
 VIEWS = "edit_box.py --view - --pixels 0 0 1 0 all 2"
 # What writes to standard output.
 WRITERS = (
+    "audit.py good.las empty script counted",
     "aim.py above 9 9 --survey good.las",
     "assemble.py made",
     "class_changes.py good.las good.las",
@@ -61,7 +70,7 @@ WRITERS = (
     "replies.py good.replies 1 -",
 )
 # These have no input but the repository, or none at all.
-WITHOUT = ("run_guide.py", "terrain.py", "try_program.py", "try_versions.py", "try_views.py")
+WITHOUT = ("run_guide.py", "terrain.py", "try_program.py", "try_sessions.py", "try_versions.py", "try_views.py")
 
 
 def scripts():

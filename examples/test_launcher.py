@@ -21,6 +21,8 @@ ROOT = os.path.dirname(os.path.dirname(os.path.realpath(__file__)))
 RIGHT = ["info", "survey", "out"]
 WRONG = ["info", "none", "out"]
 FURTHER = b"word 1 is 'none': no such file\n"
+PAIRS = [f"{end}{number}" for number in range(1, 17) for end in "io"]
+SCRIPT = "the name of a script of at most 1048576 bytes, or - for standard input"
 CAMERA = "1 ortho 1 1 0 0 0 1 0 0 0 1 0 0 0 1 1 1 0 10 class all show".split()
 
 
@@ -193,7 +195,12 @@ class Signals(Launcher):
 
 class Words(Launcher):
     def test_a_word_that_is_missing(self):
-        for words, at in ((["serve", "survey", "1", "j"], 4), (["draw"], 1), (["info", "survey"], 2)):
+        for words, at in (
+            (["serve", "survey", "1", "j"], 4),
+            (["serve", "survey", "1", "j", "i", "o", "i2"], 7),
+            (["draw"], 1),
+            (["info", "survey"], 2),
+        ):
             further = self.refused(words, f"word {at} is not expected", 2)
             self.assertEqual(further, f"word {at} is missing\n".encode())
 
@@ -210,6 +217,10 @@ class Words(Launcher):
             (["draw", "a", "a", *CAMERA], 2, "'a', as word 1 is"),
             (["serve", "a", "1", "-", "i", "-"], 5, "'-', as word 3 is"),
             (["serve", "-", "1", "-", "-", "o"], 4, "'-', as word 1 is"),
+            (["serve", "survey", "1", "j", "i", "o", "i"], 6, "'i', as word 4 is"),
+            (["serve", "survey", "1", "j", "-", "-", "i", "-"], 7, "'-', as word 5 is"),
+            (["serve", "survey", "1", "j", *PAIRS, "i17"], 36, "'i17': the words of serve end before it"),
+            (["serve", "survey", "1", "j", "i", "o", ""], 6, "'', where IN is wanted: " + SCRIPT),
             (["info", "", "b"], 1, "'', where SURVEY is wanted: the name of a LAS file, or - for standard input"),
             (["frob\x1b[2J"], 0, "$'frob\\E[2J': no command; the commands are draw, info and serve"),
             (["grün"], 0, "'grün': no command; the commands are draw, info and serve"),
@@ -240,6 +251,12 @@ class Words(Launcher):
             (["info", "survey", "other name"], 2, 5, "'other name': the file of word 1"),
             (["serve", "survey", "1", "j", "none", "o"], 4, 5, "'none': no such file"),
             (["serve", "survey", "1", "./o", "crates.txt", "o"], 3, 5, "'./o': the file of word 5"),
+            (["serve", "survey", "1", "j", "crates.txt", "o", "none", "o2"], 6, 5, "'none': no such file"),
+            (["serve", "survey", "1", "j", "crates.txt", "o", "README.md", "./o"], 7, 5, "'./o': the file of word 5"),
+            (["serve", "survey", "1", "j", "crates.txt", "o", "./o", "o2"], 6, 5, "'./o': the file of word 5"),
+            (["serve", "survey", "1", "j", "crates.txt", "o", "README.md", "./crates.txt"], 7, 5, "'./crates.txt': the file of word 4"),
+            (["serve", "survey", "1", "./o2", "crates.txt", "o", "README.md", "o2"], 3, 5, "'./o2': the file of word 7"),
+            (["serve", "survey", "1", "j", "crates.txt", "o", "crates", "o2"], 6, 6, "'crates': a folder"),
         ):
             verb = {5: "open", 6: "read"}[status]
             further = self.refused(words, f"cannot {verb} word {at}", status)
@@ -249,11 +266,16 @@ class Words(Launcher):
         if os.path.exists("/dev/full"):
             further = self.refused(["info", "survey", "/dev/full"], "cannot write word 2", 9)
             self.assertEqual(further, b"word 2 is '/dev/full': a full device\n")
+            words = ["serve", "survey", "1", "j", "README.md", "o", "crates.txt", "/dev/full"]
+            self.assertEqual(self.refused(words, "cannot write word 7", 9), b"word 7 is '/dev/full': a full device\n")
         # 2^20 bytes are allowed, and one more isn't.
         for length, said in ((1 << 20, b""), ((1 << 20) + 1, b"word 4 is 'script': more than 1048576 bytes\n")):
             self.write("script", "#" * length)
             words = ["serve", "survey", "1", "j", "script", "o"]
             self.assertEqual(self.refused(words, "session input of word 4 is too long", 10), said)
+        words = ["serve", "survey", "1", "j", "README.md", "o", "script", "o2"]
+        said = b"word 6 is 'script': more than 1048576 bytes\n"
+        self.assertEqual(self.refused(words, "session input of word 6 is too long", 10), said)
 
     def test_a_camera_number_out_of_range(self):
         # Word 5 is the first number; the pixels, of which there may be 9437184, are told as the nineteenth.
@@ -308,6 +330,27 @@ class Words(Launcher):
             further = self.refused(words, "word 26 is not expected", 2)
             self.assertEqual(further, b"" if looks_right else b"word 26 is missing\n", words)
 
+    def test_each_number_of_sessions_is_known(self):
+        for name in PAIRS[::2]:
+            self.write(name, "")
+        # Where the words look right the program is in the launcher's place, and nothing further is said.
+        for pairs, looks_right in (
+            (PAIRS[:2], True),
+            (PAIRS[:6], True),
+            (PAIRS, True),
+            ([*PAIRS[:2], "-", "-"], True),
+            ([*PAIRS[:-1], "/dev/null"], True),
+            ([*PAIRS, "i17", "o17"], False),
+            (PAIRS[:5], False),
+            ([*PAIRS[:2], "i1", "o2"], False),
+            ([*PAIRS[:2], "i2", "o1"], False),
+            ([*PAIRS[:2], "i2", "survey"], False),
+            ([*PAIRS[:2], "j", "o2"], False),
+            ([*PAIRS[:2], "-", "o2", "-", "o3"], False),
+        ):
+            further = self.refused(["serve", "survey", "1", "j", *pairs], "word 99 is not expected", 2)
+            self.assertEqual(further, b"" if looks_right else b"word 99 is missing\n", pairs)
+
     def test_near_with_zeros_before_it(self):
         for near, far, looks_right in (("08", "9", True), ("010", "10", True), ("-0", "0", True), ("010", "9", False)):
             words = ["draw", "survey", "o", *CAMERA]
@@ -328,7 +371,6 @@ class Words(Launcher):
     def test_what_is_not_built(self):
         for words, said in (
             (["trial", "1", "2", "3", "o"], "word 0 is 'trial', which isn't built"),
-            (["serve", "survey", "1", "j", "i", "o", "i2", "o2"], "word 6 is 'i2': more than one pair of IN and OUT isn't built"),
         ):
             self.assertEqual(self.refused(words, "not built yet", 12).decode(), said + "\n")
 

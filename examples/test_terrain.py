@@ -48,13 +48,13 @@ class Terrain(unittest.TestCase):
         self.assertEqual(terrain.height(17.25, 300.5), plain_height(17.25, 300.5))
 
     def test_one_processor_and_several_give_the_same_rows(self):
-        bands = [(0, 2), (2, 3), (3, 5)]
+        bands = [(0, 2), None, (2, 3), (3, 5)]
         found = []
         for processors in ({0}, {0, 1}):
             with mock.patch("os.sched_getaffinity", lambda _, it=processors: it):
-                found.append(terrain.in_bands(bands))
+                found.append(terrain.side_by_side(bands))
         self.assertEqual(found[0], found[1])
-        self.assertEqual(found[0], [terrain.ground(band) for band in bands])
+        self.assertEqual(found[0], [terrain.part(band) for band in bands])
 
 
 if __name__ == "__main__":

@@ -21,9 +21,9 @@ import tempfile
 
 import assemble
 import reference_draw
-from lots import COLOURINGS, DEEPEST, GREATEST, LEAST, PARTS, RGB, SCALES, SIZES, View
-from lots import border_views, class_list, greatest_class, small_camera, survey, view
+from lots import COLOURINGS, RGB, SIZES, View, border_views, class_list, edit, small_camera, survey, view, view_words
 from script_ends import Words
+from session_lines import DEEPEST, GREATEST, LEAST, PARTS, SCALES, greatest_class
 
 ROOT = os.path.dirname(os.path.dirname(os.path.realpath(__file__)))
 SEED = 20
@@ -40,19 +40,13 @@ class Different(Exception):
     """What differs, and where."""
 
 
-def words(lots, seen):
-    """The words of a view, some numbers with zeros before them."""
-    numbers = [f"{number:0{lots.choice((1, 1, 1, 12))}d}" for number in seen.numbers]
-    return [seen.kind, *numbers, seen.colouring, seen.list, "hide" if seen.hides else "show"]
-
-
 def shown(points, seen):
     return reference_draw.picture(points, seen.numbers, seen.kind, seen.colouring, seen.classes, seen.hides)
 
 
 def view_line(lots, made, points, version):
     seen = view(lots, made)
-    text = " ".join(["view", *words(lots, seen)])
+    text = " ".join(["view", *view_words(lots, seen)])
     if seen.colouring.startswith("rgb") and made.format not in RGB:
         return Line(text, b"REFUSED 3\n")
     picture = shown(points, seen)
@@ -68,13 +62,8 @@ def count_line(lots, made, points, version):
 
 def edit_line(lots, made, points, version):
     """An edit and the records after it, or a refused one, which leaves them."""
-    top = greatest_class(made.format)
-    word, classes = class_list(lots, top)
-    to = lots.choice((0, 2, top, lots.randint(0, top), lots.randint(0, 255)))
-    axes = [[made.place[axis] for made in points] + [LEAST, GREATEST] for axis in range(3)]
-    box = [sorted((lots.choice(axis), lots.choice(axis))) for axis in axes]
-    text = f"edit {' '.join(str(low) for low, _ in box)} {' '.join(str(high) for _, high in box)} {word} {to}"
-    if to > top:
+    text, box, classes, to = edit(lots, made)
+    if to > greatest_class(made.format):
         return Line(text, b"REFUSED 4\n"), points
     after = [
         point._replace(kind=to)
@@ -193,10 +182,10 @@ def try_views(lots, folder, tally):
         pictures = [line.answer for line in lines if line.answer.startswith(b"PICTURE")]
         seen = view(lots, made)
         if seen.colouring.startswith("rgb") and form not in RGB:
-            try_draw(folder, made, words(lots, seen), 4, f"format {form} has no colour")
+            try_draw(folder, made, view_words(lots, seen), 4, f"format {form} has no colour")
         else:
             pictures.append(shown(made.points, seen))
-            try_draw(folder, made, words(lots, seen), 0, "", pictures[-1])
+            try_draw(folder, made, view_words(lots, seen), 0, "", pictures[-1])
         tell(tally, records, pictures)
 
 
@@ -228,7 +217,7 @@ def try_chosen(lots, folder, tally, records, size, views):
     lines = []
     for seen in views:
         picture = shown(made.points, seen)
-        lines.append(Line(" ".join(["view", *words(lots, seen)]), b"PICTURE 0 %d\n" % len(picture) + picture))
+        lines.append(Line(" ".join(["view", *view_words(lots, seen)]), b"PICTURE 0 %d\n" % len(picture) + picture))
     try_session(folder, made, lines, 1)
     tell(tally, records, [line.answer for line in lines])
 

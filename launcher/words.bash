@@ -86,6 +86,20 @@ is_class_list() {
   done
 }
 
+# Whether no name of a line of serve stands twice; - may once among those to read and once among those to write.
+names_differ() {
+  local line=("$@") places=(1 3) at name
+  local -A seen=()
+  for ((at = 4; at < $#; at++)); do places+=("$at"); done
+  for at in "${places[@]}"; do
+    name="file ${line[at]}"
+    # SURVEY stands at 1, JOURNAL at 3, and then IN and OUT take turns.
+    if [ "$name" = 'file -' ]; then name="stream $((at != 1 && at % 2))"; fi
+    if [ -n "${seen[$name]-}" ]; then return 1; fi
+    seen[$name]=$at
+  done
+}
+
 # Whether the words are those of a line that is built. Where it says no the program mostly ends at once.
 looks_right() {
   local workers='^0{0,18}([1-9]|[1-5][0-9]|6[0-4])$' number='^-?[0-9]{1,20}$' word
@@ -98,9 +112,8 @@ looks_right() {
       [[ ${24} =~ ^(class|rgb16|rgb8|intensity)$ && ${26} =~ ^(show|hide)$ ]] || return 1
       is_camera "$5" "${@:6:18}" && is_class_list "${25}"
       ;;
-    serve:6)
-      [[ $3 =~ $workers && $2 != "$5" && $4 != "$6" ]] || return 1
-      [[ ( $2 != "$4" && $2 != "$6" || $2 = - ) && ( $5 != "$4" && $5 != "$6" || $5 = - ) ]]
+    serve:*)
+      (($# >= 6 && $# <= 36 && $# % 2 == 0)) && [[ $3 =~ $workers ]] && names_differ "$@"
       ;;
     *) return 1 ;;
   esac
@@ -110,9 +123,31 @@ looks_right() {
 faults=()
 note() { faults+=("$1|$2|$3"); }
 
-# The name of a file to read, and its place.
+# Where the name of each place leads, once it was looked up.
+leads=()
+look_up() { if [ -z "${leads[$1]-}" ]; then leads[$1]=$(readlink -f -- "${words[$1]}"); fi; }
+
+# The name of a file, its place, and the places of names that are opened before it and may not lead to the same file.
+foresee_same() {
+  local name=$1 at=$2 other earlier
+  shift 2
+  for other; do
+    earlier=${words[other]}
+    if [ "$earlier" = - ]; then continue; fi
+    if [ -e "$name" ]; then
+      if [ -f "$name" ] && [ "$name" -ef "$earlier" ]; then note 5 "$at" "the file of word $other"; fi
+    else
+      look_up "$at"
+      look_up "$other"
+      if [ "${leads[at]}" = "${leads[other]}" ]; then note 5 "$at" "the file of word $other"; fi
+    fi
+  done
+}
+
+# The name of a file to read, its place, and the places of the names to write that are opened before it.
 foresee_read() {
   local name=$1 at=$2 folder
+  if [ "$name" != - ]; then foresee_same "$@"; fi
   if [ "$name" = - ]; then
     if [ ! -e /dev/fd/0 ]; then note '5 6' "$at" 'standard input is closed'; fi
     name=/dev/fd/0
@@ -135,22 +170,13 @@ foresee_read() {
 
 # The name of a file to write, its place, and the places of the names that are opened before it.
 foresee_write() {
-  local name=$1 at=$2 folder other earlier
-  shift 2
+  local name=$1 at=$2 folder
   if [ "$name" = - ]; then
     if [ /dev/fd/1 -ef /dev/full ]; then note 9 "$at" 'standard output is a full device'; fi
     if [ ! -e /dev/fd/1 ]; then note 9 "$at" 'standard output is closed'; fi
     return
   fi
-  for other; do
-    earlier=${words[other]}
-    if [ "$earlier" = - ]; then continue; fi
-    if [ -e "$name" ]; then
-      if [ -f "$name" ] && [ "$name" -ef "$earlier" ]; then note 5 "$at" "the file of word $other"; fi
-    elif [ "$(readlink -f -- "$name")" = "$(readlink -f -- "$earlier")" ]; then
-      note 5 "$at" "the file of word $other"
-    fi
-  done
+  foresee_same "$@"
   # A link to no file makes one where it leads.
   if [ -L "$name" ] && [ ! -e "$name" ]; then name=$(readlink -m -- "$name"); fi
   case $name in */*) folder=${name%/*}/ ;; *) folder=. ;; esac
@@ -203,13 +229,17 @@ foresee_colour() {
 
 # What can be seen of a built line before it runs, in the order in which the program opens its files.
 foresee() {
+  local at opened=(1) written=()
   foresee_read "$2" 1
   foresee_survey "$2"
   if [ "$1" = serve ]; then
-    foresee_read "$5" 4
-    foresee_write "$6" 5 1 4
-    foresee_write "$4" 3 1 4 5
-    foresee_length "$5" 1048576 4 10
+    for ((at = 4; at < $#; at += 2)); do
+      foresee_read "${words[at]}" "$at" "${written[@]}"
+      foresee_write "${words[at + 1]}" $((at + 1)) "${opened[@]}" "$at"
+      opened+=("$at" $((at + 1))) written+=($((at + 1)))
+    done
+    foresee_write "$4" 3 "${opened[@]}"
+    for ((at = 4; at < $#; at += 2)); do foresee_length "${words[at]}" 1048576 "$at" 10; done
   else
     if [ "$1" = draw ]; then foresee_colour "$2" "${24}"; fi
     foresee_write "$3" 2 1
@@ -272,7 +302,6 @@ explain_number() {
 explain_unbuilt() {
   case ${words[0]} in
     trial) echo "word 0 is 'trial', which isn't built" ;;
-    serve) echo "word 6 is $(quoted "${words[6]-}"): more than one pair of IN and OUT isn't built" ;;
   esac
 }
 
