@@ -9,7 +9,7 @@ use cull_boxes::kept;
 use grid_blocks::{Blocks, build, build_by_number};
 use int_camera::{Camera, CameraNumbers, Kind};
 use las_survey::{Survey, load};
-use min_frame::{Frame, MOST_BLOCKS};
+use min_frame::Frame;
 use std::alloc::Global;
 use std::hint::spin_loop;
 use std::process::Abort;
@@ -59,7 +59,7 @@ const FARTHEST: [i128; 18] = [
 const SQUARE: [i128; 18] = [16, 16, 0, 0, 0, 1, 0, 0, 0, 1, 0, 0, 0, 1, 1, 1, 0, 1000];
 
 /// Appends a header of 375 bytes before so many records of 20 bytes.
-fn append_header(bytes: &mut Bytes, records: u32) -> Result<(), OutOfMemory> {
+fn append_header(bytes: &mut Bytes, records: usize) -> Result<(), OutOfMemory> {
     bytes.append(b"LASF")?;
     bytes.append(&[0; 20])?;
     bytes.append(&[1, 4])?;
@@ -69,7 +69,7 @@ fn append_header(bytes: &mut Bytes, records: u32) -> Result<(), OutOfMemory> {
     bytes.append(&[0; 5])?;
     bytes.append(&20u16.to_le_bytes())?;
     bytes.append(&[0; 140])?;
-    bytes.append(&u64::from(records).to_le_bytes())?;
+    bytes.append(&(records as u64).to_le_bytes())?;
     bytes.append(&[0; 120])
 }
 
@@ -85,7 +85,7 @@ fn append_record(bytes: &mut Bytes, ([x, y, z], class): Place) -> Result<(), Out
 /// A survey of these records.
 fn survey_of(alloc: Global, places: &[Place]) -> Result<Survey, Fail> {
     let mut bytes = Bytes::new(alloc);
-    append_header(&mut bytes, places.len() as u32)?;
+    append_header(&mut bytes, places.len())?;
     for place in places {
         append_record(&mut bytes, *place)?;
     }
@@ -203,17 +203,17 @@ impl Beside for Hold {
 }
 
 /// Draws with two workers on a frame of its own.
-fn drawn_by_two<R: Threads + Sync>(
+fn drawn_by_two<R: Abort + Threads + Sync>(
     rt: &R,
     alloc: Global,
     survey: &Survey,
     view: &ViewSpec,
     hold: &Hold,
 ) -> Result<Words, OutOfMemory> {
-    prove!(survey.records() <= MOST_BLOCKS);
     let classes = base(alloc, survey)?;
     let blocks = build(alloc, survey)?;
     let kept = kept(alloc, &view.camera, &blocks)?;
+    assert!(rt; kept.count() == 3);
     let pixels = view.camera.width() * view.camera.height();
     let (frame, root) = Frame::new(alloc, pixels, kept.count(), 2)?;
     let plan = Plan {
@@ -263,7 +263,7 @@ fn scattered(i: u32) -> (u32, u32, u32, u8)
 /// own.
 fn scene(alloc: Global) -> Result<Survey, Fail> {
     let mut bytes = Bytes::new(alloc);
-    append_header(&mut bytes, SCENE)?;
+    append_header(&mut bytes, SCENE as usize)?;
     for i in 0..SCENE {
         let (across, down, depth, class) = scattered(i);
         let place = [across as i32 - 8, down as i32 - 8, depth as i32];
