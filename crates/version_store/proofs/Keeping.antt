@@ -1,23 +1,19 @@
 -- What a store keeps, after one more entry.
-use Rattle.std.proofs.Common.{◌≡◌, ℕ, suc, ◌+◌, ◌-◌, ◌<◌, ◌≤◌, Bool, true, false, ◌||◌, cond, eqb, nat_lt, List, [], ◌∷◌, ◌++◌, length, map, take, drop, get_or, set, Option, Some, None, subst, refl, sym, ap, inl, inr, ◌∙◌, arith, length-append}
-use Rattle.std.specs.List.{All, position, position_or_len, remove, sum_by}
+use Rattle.std.proofs.Common.{◌≡◌, ℕ, suc, ◌<◌, ◌≤◌, Bool, true, false, cond, nat_lt, List, [], ◌∷◌, length, map, get_or, Some, None, subst, refl, sym, ap, ◌∙◌, arith}
+use Rattle.std.specs.List.{position, position_or_len}
 use Rattle.std.specs.Arc.{arc_value}
-use Rattle.std.proofs.lemmas.Bool.{cases_Bool, cases_lt, or_cases, eqb-true, eqb-false, eq-eqb, ltb-true, ltb-false, lt-ltb, le-ltb}
-use Rattle.std.proofs.lemmas.List.{length-map, map_push, map-set, map-append, take-map, drop-map, take_all, take_more, take-append-le, get_or-map, get_or_default, length_push}
-use Rattle.std.proofs.lemmas.List.Elements.{All-nil, All-push, All-get_or, All-set, All-take, All-drop, All-append, All-weaker}
-use Rattle.std.proofs.lemmas.List.Sums.{sum_by_push, sum_by-set, sum_by-remove, sum_by_more, get_or-le-sum_by, fails_before_first}
+use Rattle.std.proofs.lemmas.Bool.{eqb-true, eqb-false, ltb-false}
+use Rattle.std.proofs.lemmas.List.{length-map, take_all, get_or-map, get_or_default}
+use Rattle.std.proofs.lemmas.List.Elements.{All-get_or}
+use Rattle.std.proofs.lemmas.List.Sums.{get_or-le-sum_by, fails_before_first}
 use Rattle.std.proofs.lemmas.List.Quantifiers.{position-Some}
-use Rattle.class_pages.specs.Fitting.{EachFits}
-use Rattle.view_meaning.specs.Survey.{record_count, format_of}
 use Rattle.view_meaning.specs.Classes as meaning
-use Rattle.version_store.specs.declared.history.What.TheVariants.{Publish, Pin, Unpin}
 use Rattle.version_store.specs.declared.history.Entry.{Entry}
 use Rattle.version_store.specs.declared.held.Held.{Held}
-use Rattle.version_store.specs.Histories.{journal, held, pins_out, IsLegal, HasPinned}
+use Rattle.version_store.specs.Histories.{journal, held, pins_out, HasPinned}
 use Rattle.version_store.specs.Store.{Stored, Pinned, is_version, shown, IsVersion, IsKept}
-use Rattle.version_store.proofs.HistoryLaws.{entry_by, journal-publish, journal-pin, journal-unpin, IsLegal-none, IsLegal-publish, IsLegal-pin, IsLegal-unpin}
 use Rattle.version_store.proofs.PinsOut.{pins_out-pinned}
-use Rattle.version_store.proofs.HeldPush.{held-at, held-has, length-held, held-last, held-pin, held-publish, held-unpin}
+use Rattle.version_store.proofs.HeldPush.{held-at, held-has, length-held, held-last}
 
 -- what is shown of the one at a place
 shown-at : (helds : List Held) (i : ℕ) (it : Held) (d : ℕ × ℕ) → i < length helds → it ≡ get_or helds i it → get_or (map shown helds) i d ≡ (it.version, it.pins)

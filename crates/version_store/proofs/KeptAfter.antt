@@ -1,9 +1,9 @@
 -- What a store keeps holds after one more entry.
-use Rattle.std.proofs.Common.{◌≡◌, ℕ, suc, ◌+◌, ◌-◌, ◌<◌, ◌≤◌, Bool, true, false, ◌||◌, cond, eqb, nat_lt, List, [], ◌∷◌, ◌++◌, length, map, take, drop, get_or, set, Some, subst, refl, sym, ap, inl, inr, ◌∙◌, arith, length-append}
+use Rattle.std.proofs.Common.{◌≡◌, ℕ, suc, ◌+◌, ◌-◌, ◌≤◌, Bool, true, false, ◌||◌, cond, eqb, nat_lt, List, [], ◌∷◌, ◌++◌, length, map, take, drop, get_or, set, Some, subst, refl, sym, ap, inl, inr, ◌∙◌, arith, length-append}
 use Rattle.std.specs.List.{All, position, remove, sum_by}
 use Rattle.std.specs.Arc.{arc_value}
-use Rattle.std.proofs.lemmas.Bool.{cases_Bool, cases_lt, ltb-true, ltb-false, lt-ltb, le-ltb}
-use Rattle.std.proofs.lemmas.List.{length-map, map_push, map-set, map-append, take-map, drop-map, take_all, take_more, take-append-le, length_push}
+use Rattle.std.proofs.lemmas.Bool.{cases_lt, ltb-false, lt-ltb, le-ltb}
+use Rattle.std.proofs.lemmas.List.{map_push, map-set, map-append, take-map, drop-map, take_all, take-append-le, length_push}
 use Rattle.std.proofs.lemmas.List.Elements.{All-nil, All-cons, All-push, All-set, All-take, All-drop, All-append, All-weaker}
 use Rattle.std.proofs.lemmas.List.Sums.{sum_by_push, sum_by-set, sum_by-remove, sum_by_more}
 use Rattle.class_pages.specs.Fitting.{EachFits}
@@ -12,11 +12,11 @@ use Rattle.view_meaning.specs.Classes as meaning
 use Rattle.version_store.specs.declared.history.What.TheVariants.{Publish, Pin, Unpin}
 use Rattle.version_store.specs.declared.history.Entry.{Entry}
 use Rattle.version_store.specs.declared.held.Held.{Held}
-use Rattle.version_store.specs.Histories.{journal, numbered, held, pins_out, IsLegal, HasPinned}
+use Rattle.version_store.specs.Histories.{journal, numbered, held, pins_out, HasPinned}
 use Rattle.version_store.specs.Store.{is_version, shown, IsVersion, IsKept}
 use Rattle.version_store.proofs.HistoryLaws.{entry_by, journal-publish, journal-pin, journal-unpin, IsLegal-none, IsLegal-publish, IsLegal-pin, IsLegal-unpin}
 use Rattle.version_store.proofs.HeldPush.{held-pin, held-publish, held-unpin}
-use Rattle.version_store.proofs.Keeping.{IsPlace, length-helds, version_of, at_place, newest-version, newest-pins, place-pins}
+use Rattle.version_store.proofs.Keeping.{length-helds, version_of, at_place, newest-version, newest-pins, place-pins}
 
 -- with other pins
 abbrev pub with_pins : Held → ℕ → Held

@@ -1,12 +1,12 @@
 -- Pins that callers have, each of which the history owes: it has been taken and not given back.
-use Rattle.std.proofs.Common.{◌≡◌, ℕ, ◌+◌, ◌-◌, ◌<◌, ◌≤◌, Bool, true, ◌&&◌, cond, eqb, List, [], ◌∷◌, ◌++◌, length, get_or, refl, sym, ap, ◌∙◌, arith}
-use Rattle.std.specs.List.{count_by, swap_remove}
+use Rattle.std.proofs.Common.{◌≡◌, ℕ, ◌<◌, ◌&&◌, cond, eqb, List, [], ◌∷◌, ◌++◌, length, get_or, refl, ap, ◌∙◌, arith}
+use Rattle.std.specs.List.{swap_remove}
 use Rattle.std.proofs.lemmas.Bool.{eq-eqb}
 use Rattle.std.proofs.lemmas.List.Sums.{sum_by_push, sum_by-swap_remove, get_or-le-sum_by}
 use Rattle.view_meaning.specs.Classes as meaning
 use Rattle.version_store.specs.declared.history.What.TheVariants.{Publish, Pin, Unpin}
 use Rattle.version_store.specs.declared.history.Entry.{Entry}
-use Rattle.version_store.specs.Histories.{journal, numbered, is_pin, is_unpin, HasPinned}
+use Rattle.version_store.specs.Histories.{journal, numbered, HasPinned}
 use Rattle.version_store.specs.Store.{Pinned, IsOwed}
 use Rattle.version_store.proofs.HistoryLaws.{entry_by, pins-publish, pins-pin, pins-unpin, unpins-publish, unpins-pin, unpins-unpin}
 

@@ -1,5 +1,5 @@
 -- What a call on a shared store adds to the entries of its pass. These laws are for callers.
-use Rattle.std.proofs.Common.{◌≡◌, ℕ, ◌+◌, ◌<◌, ◌≤◌, Bool, true, false, cond, eqb, List, [], ◌∷◌, ◌++◌, length, refl, sym, ap, ◌∙◌, arith, append-nil, length-append}
+use Rattle.std.proofs.Common.{◌≡◌, ℕ, ◌+◌, Bool, true, false, cond, eqb, List, [], ◌∷◌, ◌++◌, length, refl, sym, ap, ◌∙◌, arith, append-nil, length-append}
 use Rattle.std.proofs.lemmas.Bool.{eq-eqb}
 use Rattle.std.proofs.lemmas.List.{append_cancel_right}
 use Rattle.std.proofs.lemmas.List.Sums.{sum_by-append}
@@ -8,7 +8,7 @@ use Rattle.turn_gate.specs.Meaning.{Passed, made_by}
 use Rattle.turn_gate.proofs.Makers.{made_by-append, made_by_own}
 use Rattle.view_meaning.specs.Classes as meaning
 use Rattle.version_store.specs.declared.history.What.{What}
-use Rattle.version_store.specs.declared.history.What.TheVariants.{Publish, Pin, Unpin}
+use Rattle.version_store.specs.declared.history.What.TheVariants.{Pin}
 use Rattle.version_store.specs.declared.history.Entry.{Entry}
 use Rattle.version_store.specs.Histories.{edit_in, journal, numbered, entries_by, is_pin, is_unpin, how_many, HasPinned}
 use Rattle.version_store.specs.Sharing.{maker, IsOwn, MakesOne, MakesNone}

@@ -1,4 +1,4 @@
-use Rattle.std.proofs.Common.{◌≡◌, ℕ, List, ap, sym, ◌∙◌}
+use Rattle.std.proofs.Common.{ℕ, List, ap, sym, ◌∙◌}
 use Rattle.view_meaning.specs.Classes as meaning
 use Rattle.version_store.specs.Store.{newest}
 use Rattle.version_store.proofs.SharedSteps.{newest-publish}

@@ -1,6 +1,5 @@
-use Rattle.std.proofs.Common.{◌≡◌, ℕ, List, length, ap, sym, ◌∙◌, subst}
+use Rattle.std.proofs.Common.{◌≡◌, ℕ, List, ap, sym, ◌∙◌, subst}
 use Rattle.turn_gate.specs.Meaning.{Passed, Turned}
-use Rattle.view_meaning.specs.Classes as meaning
 use Rattle.version_store.specs.declared.history.Entry.{Entry}
 use Rattle.version_store.specs.declared.history.What.TheVariants.{Publish}
 use Rattle.version_store.specs.Histories.{journal}

@@ -1,8 +1,6 @@
-use Rattle.std.proofs.Common.{◌≡◌, ◌≤◌, List, [], length, subst, refl, sym, ap, ◌∙◌}
-use Rattle.std.specs.Arc.{arc_value}
+use Rattle.std.proofs.Common.{[], length, subst, refl, sym, ap, ◌∙◌}
 use Rattle.class_pages.specs.Fitting.{EachFits}
-use Rattle.view_meaning.specs.Survey.{record_count, format_of}
-use Rattle.view_meaning.specs.Classes as meaning
+use Rattle.view_meaning.specs.Survey.{format_of}
 use Rattle.version_store.specs.declared.held.Held.{Held}
 use Rattle.version_store.specs.Store.{IsVersion}
 use Rattle.version_store.proofs.KeptAfter.{IsVersion-first, IsKept-nil}

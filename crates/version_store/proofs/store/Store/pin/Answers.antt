@@ -1,4 +1,4 @@
-use Rattle.std.proofs.Common.{◌≡◌, suc, ◌+◌, ◌-◌, length, ap, ◌∙◌, arith}
+use Rattle.std.proofs.Common.{◌≡◌, suc, ◌-◌, length, arith}
 use Rattle.version_store.proofs.HistoryLaws.{IsLegal-pin}
 use Rattle.version_store.proofs.Keeping.{one_held, pins-few}
 use Rattle.version_store.proofs.KeptAfter.{IsKept-pin}

@@ -1,6 +1,5 @@
 use mir.Val.{bool_byte}
 use Rattle.std.proofs.Common.{◌≡◌, suc, ◌+◌, ◌-◌, Bool, true, false, cond, nat_lt, List, [], ◌∷◌, ◌++◌, length, get_or, subst, refl, sym, ap, ◌∙◌, arith}
-use Rattle.std.specs.Arc.{arc_value}
 use Rattle.std.proofs.lemmas.List.{length_push}
 use Rattle.version_store.specs.declared.held.Held.{Held}
 use Rattle.version_store.specs.declared.history.Entry.{Entry}

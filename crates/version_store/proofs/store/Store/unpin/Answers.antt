@@ -1,4 +1,4 @@
-use Rattle.std.proofs.Common.{◌≡◌, ◌<◌, ◌||◌, true, false, eqb, nat_lt, length, Some, None, sym, ap, ◌∙◌, arith}
+use Rattle.std.proofs.Common.{◌≡◌, ◌||◌, true, false, eqb, nat_lt, length, Some, None, sym, ap, ◌∙◌, arith}
 use Rattle.std.specs.List.{position}
 use Rattle.version_store.specs.Histories.{journal, HasPinned}
 use Rattle.version_store.specs.Store.{Stored, is_version}

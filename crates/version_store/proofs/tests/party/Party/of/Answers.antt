@@ -1,4 +1,3 @@
-use Rattle.std.proofs.Common.{arith}
 use Rattle.version_store.proofs.Owed.{IsOwed-nil}
 use Rattle.version_store.proofs.tests.party.Party.of.Goals as goal
 

@@ -1,4 +1,4 @@
-use Rattle.std.proofs.Common.{◌≡◌, ap, arith}
+use Rattle.std.proofs.Common.{ap, arith}
 use Rattle.version_store.specs.Store.{Pinned}
 use Rattle.version_store.proofs.Owed.{IsOwed-pin}
 use Rattle.version_store.proofs.tests.party.Party.pin.Goals as goal

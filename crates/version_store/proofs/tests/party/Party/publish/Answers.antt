@@ -1,4 +1,4 @@
-use Rattle.std.proofs.Common.{◌≡◌, Result, Ok, Err, OnOk, OnErr, subst, sym, arith}
+use Rattle.std.proofs.Common.{Result, Ok, Err, OnOk, OnErr, subst, sym}
 use Rattle.version_store.specs.Store.{Stored, IsOwed}
 use Rattle.version_store.proofs.Owed.{IsOwed-publish}
 use Rattle.version_store.proofs.tests.party.Party.publish.Goals as goal
