@@ -77,7 +77,7 @@ most_later b edits later items marks None new begins within got = tt
 most_later b edits later items marks (Some all) new begins within got =
     rw (
       replies-later b edits later items marks begins within,
-      replies-later b edits later (take (length items - 1) items) (take (length marks - 1) marks) begins (within_take marks (length edits) (length marks - 1) within)
+      replies-later b edits later (take (length items - 1) items) (take (length marks - 1) marks) begins (within_take marks (length edits) (length marks - 1) within),
     ) got
 
 pub got_later : (b : List ℕ) (edits later : List meaning.Edit) (items : List Item) (marks : List ℕ) (old new : Option (List ℕ)) (reason : Reason) → IsPrefix edits later → AreWithin marks (length edits)

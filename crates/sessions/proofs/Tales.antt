@@ -180,8 +180,16 @@ even_shown v mark at after entries pinned is given even =
     let then : ◌≡◌ {A = ℕ} (cond (is_unpin v after.0.what after.1) 1 0) one = rw given refl in
     let no : ◌≡◌ {A = ℕ} (cond (is_pin v after.0.what after.1) 1 0) 0 = rw given refl in
     omega (
-      arith, first, none, then, no, even,
-      how_many-cons (is_unpin v) at (after ∷ entries), how_many-cons (is_pin v) at (after ∷ entries), how_many-cons (is_unpin v) after entries, how_many-cons (is_pin v) after entries
+      arith,
+      first,
+      none,
+      then,
+      no,
+      even,
+      how_many-cons (is_unpin v) at (after ∷ entries),
+      how_many-cons (is_pin v) at (after ∷ entries),
+      how_many-cons (is_unpin v) after entries,
+      how_many-cons (is_pin v) after entries,
     )
 
 -- a session gives back what it pins

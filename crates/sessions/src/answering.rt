@@ -117,7 +117,16 @@ fn answer_view<R: Threads + Wait + Sync, O: Sink, B: Beside>(
     let pin = world.shared.pin(rt, pass)?;
     let version = pin.version();
     let classes = pin.classes();
-    let drawn = append_picture(alloc, rt, &world.scene, classes, version, view, beside, &mut out);
+    let drawn = append_picture(
+        alloc,
+        rt,
+        &world.scene,
+        classes,
+        version,
+        view,
+        beside,
+        &mut out,
+    );
     marks.push_within(version);
     world.shared.unpin(rt, pass, pin);
     drawn?;
@@ -171,7 +180,13 @@ fn answer_count<R: Threads + Wait + Sync, O: Sink>(
     out.reserve(HEAD)?;
     let pin = world.shared.pin(rt, pass)?;
     let version = pin.version();
-    append_count(&world.scene.survey, pin.classes(), version, filter, &mut out);
+    append_count(
+        &world.scene.survey,
+        pin.classes(),
+        version,
+        filter,
+        &mut out,
+    );
     marks.push_within(version);
     world.shared.unpin(rt, pass, pin);
     give_all(sink, out.as_slice())

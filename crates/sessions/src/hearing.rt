@@ -78,7 +78,16 @@ fn answer_pending<R: Threads + Wait + Sync, O: Sink, B: Beside>(
     if pending.long {
         answer_refusal(alloc, marks, &Refusal::Line, sink)?;
     } else {
-        answer_line(alloc, rt, world, pass, marks, pending.bytes.as_slice(), beside, sink)?;
+        answer_line(
+            alloc,
+            rt,
+            world,
+            pass,
+            marks,
+            pending.bytes.as_slice(),
+            beside,
+            sink,
+        )?;
     }
     pending.clear();
     Ok(())

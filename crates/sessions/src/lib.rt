@@ -13,6 +13,8 @@ mod marking;
 mod pending;
 mod replies;
 mod serving;
+#[cfg(test)]
+mod tests;
 mod world;
 
 pub use counting::count_passing;

@@ -24,8 +24,8 @@ returns-clause-answered g c =
     let b = arc_value c.args.world.now.scene.survey in
     let v = c.version-version.result in
     let shown =
-        shown_by b c.args.world.now.shared.bytes c.args.pass.now c.pin.new.pass c.unpin.new.pass c.args.marks.now.items c.reserve.new.self.items c.push_within.new.self.items v c.in_ok-pin.pin
-        c.requires.world.bytes c.requires.ready.own c.pin.ensures.own c.unpin.ensures.own c.in_ok-pin.ensures.made c.in_ok-pin.ensures.pin c.version-version.ensures c.reserve.ensures.same c.push_within.ensures.pushed c.unpin.ensures.made in
+    shown_by b c.args.world.now.shared.bytes c.args.pass.now c.pin.new.pass c.unpin.new.pass c.args.marks.now.items c.reserve.new.self.items c.push_within.new.self.items v c.in_ok-pin.pin
+    c.requires.world.bytes c.requires.ready.own c.pin.ensures.own c.unpin.ensures.own c.in_ok-pin.ensures.made c.in_ok-pin.ensures.pin c.version-version.ensures c.reserve.ensures.same c.push_within.ensures.pushed c.unpin.ensures.made in
     answered_save b c.args.pass.now c.pin.new.pass c.unpin.new.pass c.args.marks.now.items c.push_within.new.self.items v c.in_ok-pin.pin.classes shown (with_length (codes "FILE") v (saved c.deref.result.now c.classes.result.now)) _ _ c.give_file-given.result
     (ap (λ (l : List ℕ). with_length (codes "FILE") v (saved l c.classes.result.now)) c.deref.ensures ∙ ap (λ (cs : List ℕ). with_length (codes "FILE") v (saved b cs)) c.classes.ensures)
     c.give_file-given.ensures.given c.give_file-given.ensures.part

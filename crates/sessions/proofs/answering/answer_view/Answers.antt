@@ -24,8 +24,8 @@ returns-in_err-drawn-clause-answered g c =
     let b = arc_value c.args.world.now.scene.survey in
     let v = c.version-version.result in
     let shown =
-        shown_by b c.args.world.now.shared.bytes c.args.pass.now c.pin.new.pass c.unpin.new.pass c.args.marks.now.items c.reserve.new.self.items c.push_within.new.self.items v c.in_ok-pin.pin
-        c.requires.world.bytes c.requires.ready.own c.pin.ensures.own c.unpin.ensures.own c.in_ok-pin.ensures.made c.in_ok-pin.ensures.pin c.version-version.ensures c.reserve.ensures.same c.push_within.ensures.pushed c.unpin.ensures.made in
+    shown_by b c.args.world.now.shared.bytes c.args.pass.now c.pin.new.pass c.unpin.new.pass c.args.marks.now.items c.reserve.new.self.items c.push_within.new.self.items v c.in_ok-pin.pin
+    c.requires.world.bytes c.requires.ready.own c.pin.ensures.own c.unpin.ensures.own c.in_ok-pin.ensures.made c.in_ok-pin.ensures.pin c.version-version.ensures c.reserve.ensures.same c.push_within.ensures.pushed c.unpin.ensures.made in
     answered_view-none b c.args.pass.now c.pin.new.pass c.unpin.new.pass c.args.marks.now.items c.push_within.new.self.items v c.in_ok-pin.pin.classes shown _ c.args.view.now _ c.from_residual-in_err-drawn.result c.from_residual-in_err-drawn.ensures.1
 
 pub returns-clause-answered : goal.returns-clause-answered
@@ -34,8 +34,8 @@ returns-clause-answered g c =
     let v = c.version-version.result in
     let view = c.args.view.now in
     let shown =
-        shown_by b c.args.world.now.shared.bytes c.args.pass.now c.pin.new.pass c.unpin.new.pass c.args.marks.now.items c.reserve.new.self.items c.push_within.new.self.items v c.in_ok-pin.pin
-        c.requires.world.bytes c.requires.ready.own c.pin.ensures.own c.unpin.ensures.own c.in_ok-pin.ensures.made c.in_ok-pin.ensures.pin c.version-version.ensures c.reserve.ensures.same c.push_within.ensures.pushed c.unpin.ensures.made in
+    shown_by b c.args.world.now.shared.bytes c.args.pass.now c.pin.new.pass c.unpin.new.pass c.args.marks.now.items c.reserve.new.self.items c.push_within.new.self.items v c.in_ok-pin.pin
+    c.requires.world.bytes c.requires.ready.own c.pin.ensures.own c.unpin.ensures.own c.in_ok-pin.ensures.made c.in_ok-pin.ensures.pin c.version-version.ensures c.reserve.ensures.same c.push_within.ensures.pushed c.unpin.ensures.made in
     answered_view b c.args.pass.now c.pin.new.pass c.unpin.new.pass c.args.marks.now.items c.push_within.new.self.items v c.in_ok-pin.pin.classes shown view c.as_slice.result.now _ _ c.give_all.result
     (c.as_slice.ensures ∙ c.in_ok-drawn.ensures.appended ∙ ap (λ (l : List ℕ). l ++ with_length (codes "PICTURE") v (picture b c.classes-classes.result.now view)) c.new-out.ensures
     ∙ ap (λ (cs : List ℕ). with_length (codes "PICTURE") v (picture b cs view)) c.classes-classes.ensures)
