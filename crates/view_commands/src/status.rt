@@ -1,8 +1,7 @@
-ghost use Rattle.std.specs.Prelude.{◌≡◌};
+ghost use Rattle.std.specs.Prelude.{◌≡◌, ◌+◌, ◌*◌, ◌^◌, ◌<◌, length};
 ghost use Rattle.view_commands.specs.Serve as serve;
 ghost use Rattle.view_commands.specs.Status.{code_of};
 
-use crate::places::{INPUT, JOURNAL, OUTPUT};
 use int_camera::CameraLimit;
 use las_survey::SurveyFault;
 use sessions::Reason;
@@ -59,17 +58,19 @@ pub fn code(status: &Status) -> u8
     }
 }
 
-/// The status after a session: the reason of its end, where it did not finish; else what came of
-/// keeping its output; else what came of the journal.
-pub(crate) fn status_of(ended: Reason, kept: Reason, journal: Reason) -> Status
-    ensures { result ≡ serve.status_of ended kept journal }
+/// The status of the first of these reasons that is one of a fault, where the names of the first of
+/// them stand at the place `at` and the next one, those of the second at the two places after them,
+/// and so on; where there is none, the last.
+pub(crate) fn first_fault(at: u32, reasons: &[Reason], last: Status) -> Status
+    requires { at + 2 * length reasons.now < 2 ^ 32 }
+    ensures { result ≡ serve.first_fault at reasons.now last }
 {
-    match status_at(INPUT, OUTPUT, ended) {
-        Status::Done => match status_at(INPUT, OUTPUT, kept) {
-            Status::Done => status_at(JOURNAL, JOURNAL, journal),
+    match reasons {
+        [] => last,
+        [reason, others @ ..] => match status_at(at, at + 1, *reason) {
+            Status::Done => first_fault(at + 2, others, last),
             status => status,
         },
-        status => status,
     }
 }
 
