@@ -1,12 +1,7 @@
-mod Tales
-mod Replying
-mod Adding
+mod Beginning
 mod Lines
-mod Heard
-mod Taking
 mod Processing
 mod Examples
-mod Answered
 mod Lengths
 mod Shown
 mod Naming

@@ -1,6 +1,7 @@
-ghost use Rattle.std.specs.Prelude.{◌≡◌, ◌+◌, ◌*◌, ◌≤◌, ◌++◌, OnOk, OnErr, length, drop, true};
+ghost use Rattle.std.specs.Prelude.{◌≡◌, ◌+◌, ◌*◌, ◌++◌, OnOk, OnErr, length, drop, true};
 ghost use Rattle.std.specs.Arc.{arc_value};
 ghost use Rattle.sessions.specs.Shown.{ShowsNearest};
+ghost use Rattle.sessions.specs.Worlds.{IsScene};
 ghost use Rattle.view_meaning.specs.Picture.{can_colour, picture, ppm_header};
 ghost use Rattle.view_meaning.specs.Survey.{record_count, format_of};
 
@@ -11,6 +12,7 @@ use ppm_out::{HEADER, ppm_header};
 use resolve_colour::colours;
 use std::alloc::Global;
 use std::sync::Arc;
+use std::thread::Threads;
 use view_base::{Bytes, OutOfMemory};
 use view_ends::Beside;
 use view_text::ViewSpec;
@@ -27,15 +29,16 @@ pub struct Scene {
 /// Appends the whole picture of a survey under these classes, as a binary PPM of
 /// `ppm_length(width, height)` bytes. One loop draws it all, so nobody beside is told anything. A
 /// refusal is want of memory and leaves what was there as it was.
-pub fn picture<B: Beside>(
+pub fn picture<R: Threads + Sync, B: Beside>(
     alloc: Global,
+    _rt: &R,
     scene: &Scene,
     classes: &Classes,
     view: &ViewSpec,
     _beside: &B,
     out: &mut Bytes,
 ) -> Result<(), OutOfMemory>
-    requires workers { (1 ≤ scene.now.workers) × (scene.now.workers ≤ 64) }
+    requires scene { IsScene scene.now }
     requires records { length classes.now ≡ record_count (arc_value scene.now.survey) }
     requires can_colour { can_colour (format_of (arc_value scene.now.survey)) view.now.colouring ≡ true }
     ensures drawn { OnOk result (out.new.items ≡ out.old.items ++ picture (arc_value scene.now.survey) classes.now view.now) }
