@@ -1,9 +1,11 @@
+pub mod Lists
+pub mod Openings
+pub mod Begun
+pub mod Passes
+pub mod Faults
+pub mod Finished
 pub mod Counts
 pub mod Written
 pub mod Drawn
 pub mod Rows
-pub mod Lines
 pub mod JournalText
-pub mod Opened
-pub mod Runs
-pub mod OneSession
