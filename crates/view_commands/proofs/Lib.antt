@@ -1,11 +1,15 @@
-pub mod Lists
-pub mod Openings
-pub mod Begun
-pub mod Passes
-pub mod Faults
-pub mod Finished
 pub mod Counts
+pub mod Lists
 pub mod Written
 pub mod Drawn
 pub mod Rows
 pub mod JournalText
+pub mod Faults
+pub mod Openings
+pub mod Begun
+pub mod Finished
+pub mod Passes
+mod LaterStub
+pub mod SessionsRun
+pub mod Settled
+pub mod Serves

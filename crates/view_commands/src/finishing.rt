@@ -1,4 +1,4 @@
-ghost use Rattle.std.specs.Prelude.{◌≡◌, ◌+◌, ◌*◌, ◌≤◌, true, List, None, [], ◌∷◌, ◌++◌, length, map, IfOk};
+ghost use Rattle.std.specs.Prelude.{◌≡◌, ◌+◌, ◌*◌, ◌<◌, ◌≤◌, true, List, None, [], ◌∷◌, ◌++◌, length, map, IfOk};
 ghost use Rattle.std.specs.Vec.Iter.{into_iter_items};
 ghost use Rattle.sessions.specs.declared.end.Reason.{Reason};
 ghost use Rattle.view_words.specs.CommandLine.{texts};
@@ -54,9 +54,9 @@ pub(crate) fn finish_all<D: Desk>(
     requires seats { EachFrom (CanFinish (D.says desk.old) (texts words.now) shared.now.name) k (into_iter_items seats) }
     requires ends_room { length (into_iter_items seats) ≤ outcomes.old.ends.spare }
     requires kept_room { length (into_iter_items seats) ≤ outcomes.old.kept.spare }
-    ensures ends { outcomes.new.ends.items ≡ outcomes.old.ends.items ++ map (λ seat. seat.end) (into_iter_items seats.entry) }
-    ensures kept { (kept : List Reason) × (outcomes.new.kept.items ≡ outcomes.old.kept.items ++ kept) × FinishesAll (texts words.now) k (into_iter_items seats.entry) kept (D.says desk.old) (D.says desk.new) }
-    ensures joined { JoinsAll (into_iter_items seats.entry) root.old root.new }
+    ensures ends { outcomes.new.ends.items ≡ outcomes.old.ends.items ++ map (λ seat. seat.end) (into_iter_items seats) }
+    ensures kept { (kept : List Reason) × (outcomes.new.kept.items ≡ outcomes.old.kept.items ++ kept) × FinishesAll (texts words.now) k (into_iter_items seats) kept (D.says desk.old) (D.says desk.new) }
+    ensures joined { JoinsAll (into_iter_items seats) root.old root.new }
 {
     match seats.next() {
         Some(seat) => {

@@ -4,7 +4,7 @@ ghost use Rattle.version_store.specs.Sharing.{IsOwn};
 ghost use Rattle.view_base.specs.Fitting.{word_at};
 ghost use Rattle.view_words.specs.CommandLine.{IsLine, texts};
 ghost use Rattle.view_commands.specs.Serve.{HasPair, input, output};
-ghost use Rattle.view_commands.specs.Steps.{AreOpened, EachFrom, IsOpened, IsUnread, IsUnwritten, OpensAll, OpensSession, RefusesNext, RefusesOpening, ShutsUnread};
+ghost use Rattle.view_commands.specs.Steps.{AreOpened, EachFrom, IsOpened, IsUnread, IsUnwritten, OpensAll, OpensJournal, OpensSession, RefusesNext, RefusesOpening, ShutsUnread};
 
 use crate::places::{INPUT, JOURNAL, OUTPUT};
 use crate::seats::Seat;
