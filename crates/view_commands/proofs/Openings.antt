@@ -1,11 +1,15 @@
 -- What the openings of the names of a `serve` leave, one after another.
-use Rattle.std.proofs.Common.{◌≡◌, ◌≢◌, ℕ, suc, ◌+◌, ◌*◌, ◌-◌, ◌^◌, ◌<◌, ◌≤◌, List, [], ◌∷◌, ◌++◌, Bool, length, refl, sym, ◌∙◌, subst, arith, inl, inr, length-append}
+use Rattle.std.proofs.Common.{◌≡◌, ◌≢◌, ℕ, suc, ◌+◌, ◌*◌, ◌-◌, ◌^◌, ◌<◌, ◌≤◌, List, [], ◌∷◌, ◌++◌, Bool, length, refl, sym, ◌∙◌, ap, subst, arith, Option, None, false, inl, inr, length-append}
 use Rattle.std.proofs.lemmas.Bool.{cases_lt, cases_eq}
 use Rattle.std.proofs.lemmas.Bool.Decides.{nat_tests}
-use Rattle.std.specs.Prelude.{◌⊎◌, IsTrue, Some, min}
+use Rattle.std.specs.Prelude.{◌⊎◌, IsSome, IsTrue, Some, min}
 use Rattle.atomic_table.specs.Seated.{TableId}
 use Rattle.view_base.specs.Fitting.{word_at}
-use Rattle.view_ends.specs.Calls.{Shuts}
+use Rattle.turn_gate.specs.Meaning.{Passed}
+use Rattle.version_store.specs.Sharing.{IsOwn}
+use Rattle.version_store.specs.declared.history.Entry.{Entry}
+use Rattle.view_ends.specs.Calls.{IsFreshIn, Shuts}
+use Rattle.view_ends.specs.Pieces.{SourceSaid, SinkSaid}
 use Rattle.view_ends.specs.Desk.{Said, Untouched, IsKnown}
 use Rattle.view_ends.specs.Ends.{Rose, RoseBy, AllStay, OthersStay, NoneForgotten}
 use Rattle.view_words.specs.CommandLine.{IsLine}
@@ -15,7 +19,7 @@ use Rattle.view_commands.specs.declared.places.TheConstants.{JOURNAL}
 use Rattle.view_commands.specs.declared.status.Status as status
 use Rattle.view_commands.specs.declared.status.Status.TheVariants.{Done, Words, Limit, NoColour, OpenFault, ReadFault, TooLong, Survey, WriteFault, SessionLimit, Memory, NotYet}
 use Rattle.view_commands.specs.Serve.{input, output, HasPair, Empties, NotOpened}
-use Rattle.view_commands.specs.Steps.{EachFrom, Seated, AreOpened, IsOpened, IsUnread, OnlyInputs, OpensAll, OpensJournal, OpensSession, RefusesNext, RefusesOpening, ShutsUnread}
+use Rattle.view_commands.specs.Steps.{EachFrom, Seated, AreOpened, IsOpened, IsUnread, IsUnwritten, OnlyInputs, OpensAll, OpensRead, OpensSession, OpensWritten, RefusesNext, RefusesOpening, RefusesRead, RefusesWritten, ShutsUnread}
 use Rattle.view_commands.proofs.Counts.{all_stay, same_said}
 use Rattle.view_commands.proofs.Lists.{each-append, each-map}
 
@@ -157,7 +161,7 @@ opened-unread tells old mid new ws gate seats known each =
     each-map (IsOpened tells old mid ws gate) (IsUnread new ws) 0 seats (λ k seat is. record { untaken = is.fresh.untaken; faultless = is.fresh.faultless; known = known (input ws k) is.input_known }) each
 
 -- all names were opened
-pub opened-all : (tells : Bool) (old mid new : Said) (ws : List (List ℕ)) (gate : TableId) (seats : List Seated) → length ws ≡ 4 + 2 * length seats → AreOpened tells old mid ws gate seats → OpensJournal mid new ws → OpensAll tells old new ws gate seats
+pub opened-all : (tells : Bool) (old mid new : Said) (ws : List (List ℕ)) (gate : TableId) (seats : List Seated) → length ws ≡ 4 + 2 * length seats → AreOpened tells old mid ws gate seats → OpensWritten tells mid new (word_at ws JOURNAL) → OpensAll tells old new ws gate seats
 opened-all tells old mid new ws gate seats pairs opened journal = record {
   each = each-map (IsOpened tells old mid ws gate) (IsOpened tells old new ws gate) 0 seats (λ k seat is. opened-later tells old mid new ws gate k seat journal.rest.known is) opened.each;
   files = λ other apart too. journal.files other too ∙ opened.files.others other (λ k below. apart k (omega (arith, below, pairs)));
@@ -238,3 +242,240 @@ unread-then old mid new ws first second = record {
     known = λ other is. second.rest.known other (first.rest.known other is);
   };
 }
+
+same_shut : (old new : Said) (ws : List (List ℕ)) → Untouched old new → OnlyInputs old new ws
+same_shut old new ws rest = record { unopened = λ other apart. rest.unopened other; reads = λ other apart. rest.reads other; taken = λ other apart. rest.taken other }
+
+same_taken : (old new : Said) → AllStay old.taken new.taken → (other : List ℕ) → new.taken other ≤ old.taken other
+same_taken old new same other = subst (λ (m : ℕ). m ≤ old.taken other) (sym (same other)) (omega arith)
+
+-- memory was wanted for the next name
+memory_next : (old new : Said) (ws : List (List ℕ)) (k : ℕ) → 4 + 2 * k ≤ length ws → Untouched old new → RefusesNext old new ws k Memory
+memory_next old new ws k fits rest = record {
+  files = rest.files;
+  cause = (
+    fits,
+    record {
+      files = λ other. refl;
+      unopened = rest.unopened;
+      reads = rest.reads;
+      writes = rest.writes;
+      taken = λ other. refl;
+      unkept = rest.unkept;
+      known = rest.known;
+    },
+  );
+  untaken = same_taken old new rest.taken;
+  only = same_shut old new ws rest;
+  known = rest.known;
+}
+
+-- the input of the next session was not opened
+pub next-unread : (old new : Said) (ws : List (List ℕ)) (k : ℕ) (ended : status.Status) → HasPair ws k → RefusesRead old new (input ws k) (4 + 2 * k) ended → RefusesNext old new ws k ended
+next-unread old new ws k (OpenFault at) pair refused = record {
+  files = refused.3.files;
+  cause = inl (
+    refused.0,
+    pair,
+    subst (λ (m : ℕ). Rose (old.unopened (word_at ws m)) (new.unopened (word_at ws m))) (sym refused.0) refused.1,
+    record {
+      files = λ other. refl;
+      unopened = λ other. refl;
+      reads = refused.3.reads;
+      writes = refused.3.writes;
+      taken = λ other. refl;
+      unkept = refused.3.unkept;
+      known = refused.3.known;
+    },
+  );
+  untaken = same_taken old new refused.3.taken;
+  only = record {
+    unopened = λ other apart. refused.2 other (apart k pair);
+    reads = λ other apart. refused.3.reads other;
+    taken = λ other apart. refused.3.taken other;
+  };
+  known = refused.3.known;
+}
+next-unread old new ws k Memory pair refused = memory_next old new ws k (omega (arith, pair)) refused
+next-unread old new ws k Done pair refused = absurd refused
+next-unread old new ws k (Words at) pair refused = absurd refused
+next-unread old new ws k (Limit limit) pair refused = absurd refused
+next-unread old new ws k (NoColour format) pair refused = absurd refused
+next-unread old new ws k (ReadFault at) pair refused = absurd refused
+next-unread old new ws k TooLong pair refused = absurd refused
+next-unread old new ws k (Survey told) pair refused = absurd refused
+next-unread old new ws k (WriteFault at) pair refused = absurd refused
+next-unread old new ws k (SessionLimit at) pair refused = absurd refused
+next-unread old new ws k NotYet pair refused = absurd refused
+
+-- the output of the next session, or the journal after all sessions, was not opened
+pub next-unwritten : (old new : Said) (ws : List (List ℕ)) (k at : ℕ) (ended : status.Status) → (at ≡ 5 + 2 * k) × HasPair ws k ⊎ (at ≡ JOURNAL) × (length ws ≡ 4 + 2 * k) → RefusesWritten old new (word_at ws at) at ended → RefusesNext old new ws k ended
+next-unwritten old new ws k at (OpenFault place) here refused = record {
+  files = refused.2.files;
+  cause = inr (
+    subst (λ (m : ℕ). (m ≡ 5 + 2 * k) × HasPair ws k ⊎ (m ≡ JOURNAL) × (length ws ≡ 4 + 2 * k)) (sym refused.0) here,
+    subst (λ (m : ℕ). Rose (old.writes (word_at ws m)) (new.writes (word_at ws m))) (sym refused.0) refused.1,
+    record {
+      files = λ other. refl;
+      unopened = refused.2.unopened;
+      reads = refused.2.reads;
+      writes = λ other. refl;
+      taken = λ other. refl;
+      unkept = refused.2.unkept;
+      known = refused.2.known;
+    },
+  );
+  untaken = same_taken old new refused.2.taken;
+  only = record {
+    unopened = λ other apart. refused.2.unopened other;
+    reads = λ other apart. refused.2.reads other;
+    taken = λ other apart. refused.2.taken other;
+  };
+  known = refused.2.known;
+}
+next-unwritten old new ws k at Memory here refused = memory_next old new ws k (fits here) refused
+  where
+    fits : (at ≡ 5 + 2 * k) × HasPair ws k ⊎ (at ≡ JOURNAL) × (length ws ≡ 4 + 2 * k) → 4 + 2 * k ≤ length ws
+    fits (inl pair) = let one = pair.1 in omega (arith, one)
+    fits (inr all) = let one = all.1 in omega (arith, one)
+next-unwritten old new ws k at Done here refused = absurd refused
+next-unwritten old new ws k at (Words place) here refused = absurd refused
+next-unwritten old new ws k at (Limit limit) here refused = absurd refused
+next-unwritten old new ws k at (NoColour format) here refused = absurd refused
+next-unwritten old new ws k at (ReadFault place) here refused = absurd refused
+next-unwritten old new ws k at TooLong here refused = absurd refused
+next-unwritten old new ws k at (Survey told) here refused = absurd refused
+next-unwritten old new ws k at (WriteFault place) here refused = absurd refused
+next-unwritten old new ws k at (SessionLimit place) here refused = absurd refused
+next-unwritten old new ws k at NotYet here refused = absurd refused
+
+shut_later : (mid last new : Said) (ws : List (List ℕ)) (k : ℕ) (ended : status.Status) → Untouched (record last { taken = new.taken }) new → NotOpened mid last ws k ended → NotOpened mid new ws k ended
+shut_later mid last new ws k (OpenFault at) rest (inl none) = inl (
+  none.0,
+  none.1,
+  subst (λ (m : ℕ). Rose (mid.unopened (word_at ws at)) m) (sym (rest.unopened (word_at ws at))) none.2,
+  record {
+    files = λ other. refl;
+    unopened = λ other. refl;
+    reads = λ other. rest.reads other ∙ none.3.reads other;
+    writes = λ other. rest.writes other ∙ none.3.writes other;
+    taken = λ other. refl;
+    unkept = λ other. rest.unkept other ∙ none.3.unkept other;
+    known = λ other is. rest.known other (none.3.known other is);
+  },
+)
+shut_later mid last new ws k (OpenFault at) rest (inr none) = inr (
+  none.0,
+  subst (λ (m : ℕ). Rose (mid.writes (word_at ws at)) m) (sym (rest.writes (word_at ws at))) none.1,
+  record {
+    files = λ other. refl;
+    unopened = λ other. rest.unopened other ∙ none.2.unopened other;
+    reads = λ other. rest.reads other ∙ none.2.reads other;
+    writes = λ other. refl;
+    taken = λ other. refl;
+    unkept = λ other. rest.unkept other ∙ none.2.unkept other;
+    known = λ other is. rest.known other (none.2.known other is);
+  },
+)
+shut_later mid last new ws k Memory rest none = (
+  none.0,
+  record {
+    files = λ other. refl;
+    unopened = λ other. rest.unopened other ∙ none.1.unopened other;
+    reads = λ other. rest.reads other ∙ none.1.reads other;
+    writes = λ other. rest.writes other ∙ none.1.writes other;
+    taken = λ other. refl;
+    unkept = λ other. rest.unkept other ∙ none.1.unkept other;
+    known = λ other is. rest.known other (none.1.known other is);
+  },
+)
+shut_later mid last new ws k Done rest none = absurd none
+shut_later mid last new ws k (Words at) rest none = absurd none
+shut_later mid last new ws k (Limit limit) rest none = absurd none
+shut_later mid last new ws k (NoColour format) rest none = absurd none
+shut_later mid last new ws k (ReadFault at) rest none = absurd none
+shut_later mid last new ws k TooLong rest none = absurd none
+shut_later mid last new ws k (Survey told) rest none = absurd none
+shut_later mid last new ws k (WriteFault at) rest none = absurd none
+shut_later mid last new ws k (SessionLimit at) rest none = absurd none
+shut_later mid last new ws k NotYet rest none = absurd none
+
+-- the input of a session was opened, its output was not, and the input is shut
+pub next-shut : (old mid last new : Said) (ws : List (List ℕ)) (k : ℕ) (ended : status.Status) → Untouched old mid → RefusesNext mid last ws k ended → ShutsUnread last new ws → RefusesNext old new ws k ended
+next-shut old mid last new ws k ended before refuses shuts = record {
+  files = λ other. shuts.rest.files other ∙ refuses.files other ∙ before.files other;
+  cause = untouched_more old mid new ended ws k record {
+    files = λ other. refl;
+    unopened = before.unopened;
+    reads = before.reads;
+    writes = before.writes;
+    taken = before.taken;
+    unkept = before.unkept;
+    known = before.known;
+  } (shut_later mid last new ws k ended shuts.rest refuses.cause);
+  untaken = λ other. let one = shuts.untaken other in let two = refuses.untaken other in let three = before.taken other in omega (arith, one, two, three);
+  only = record {
+    unopened = λ other apart. shuts.only.unopened other apart ∙ refuses.only.unopened other apart ∙ before.unopened other;
+    reads = λ other apart. shuts.only.reads other apart ∙ refuses.only.reads other apart ∙ before.reads other;
+    taken = λ other apart. shuts.only.taken other apart ∙ refuses.only.taken other apart ∙ before.taken other;
+  };
+  known = λ other is. shuts.rest.known other (refuses.known other (before.known other is));
+}
+
+-- the inputs of the sessions before are shut too
+pub refused-shut : (tells : Bool) (old last new : Said) (ws : List (List ℕ)) (ended : status.Status) → RefusesOpening tells old last ws ended → ShutsUnread last new ws → RefusesOpening tells old new ws ended
+refused-shut tells old last new ws ended refuses shuts = record {
+  opened = refuses.opened;
+  files = record {
+    empty = λ tell k below. shuts.rest.files (output ws k) ∙ refuses.files.empty tell k below;
+    others = λ other apart. shuts.rest.files other ∙ refuses.files.others other apart;
+  };
+  cause = shut_later old last new ws refuses.opened ended shuts.rest refuses.cause;
+  untaken = λ other. let one = shuts.untaken other in let two = refuses.untaken other in omega (arith, one, two);
+  only = record {
+    unopened = λ other apart. shuts.only.unopened other apart ∙ refuses.only.unopened other apart;
+    reads = λ other apart. shuts.only.reads other apart ∙ refuses.only.reads other apart;
+    taken = λ other apart. shuts.only.taken other apart ∙ refuses.only.taken other apart;
+  };
+}
+
+-- both names of a session were opened, and a pass was split off for it
+pub session-opened : (tells : Bool) (old mid new : Said) (ws : List (List ℕ)) (gate : TableId) (k : ℕ) (left got : Option (List ℕ)) (taken faults failed given : ℕ) (seen : List Entry) (pass : Passed Entry) (seat : Seated)
+    → OpensRead old mid (input ws k) → IsFreshIn (old.file (input ws k)) left taken faults → (IsTrue tells → IsSome (old.file (input ws k))) → OpensWritten tells mid new (output ws k) → IsUnwritten tells got failed
+    → seat.input ≡ record { left = left; taken = taken; faults = faults } → seat.output ≡ record { got = got; faults = failed } → seat.pass ≡ pass → given ≡ k → seen ≡ []
+    → pass ≡ record { gate = gate; who = given + 1; seen = seen; mine = []; turn = None; root = false; out = 0; given = 0; kept = [] } → IsOwn pass → OpensSession tells old new ws gate k seat
+session-opened tells old mid new ws gate k left got taken faults failed given seen pass seat read fresh there written unwritten input_is output_is pass_is given_is seen_is split own =
+    let left_is : seat.input.left ≡ old.file (input ws k) = ap (λ (s : SourceSaid). s.left) input_is ∙ fresh.bytes in
+    record {
+      fresh = record {
+        there = λ tell. subst (λ (o : Option (List ℕ)). IsSome o) (sym left_is) (there tell);
+        untaken = ap (λ (s : SourceSaid). s.taken) input_is ∙ fresh.untaken;
+        faultless = ap (λ (s : SourceSaid). s.faults) input_is ∙ fresh.faultless;
+        unwritten = record {
+          empty = λ tell. ap (λ (s : SinkSaid). s.got) output_is ∙ unwritten.empty tell;
+          faultless = ap (λ (s : SinkSaid). s.faults) output_is ∙ unwritten.faultless;
+        };
+        pass = pass_is ∙ split ∙ fresh_pass;
+        own = subst IsOwn (sym pass_is) own;
+      };
+      left = left_is;
+      empty = written.empty;
+      files = λ other apart. written.files other apart ∙ read.rest.files other;
+      rest = record {
+        files = λ other. refl;
+        unopened = λ other. written.rest.unopened other ∙ read.rest.unopened other;
+        reads = λ other. written.rest.reads other ∙ read.rest.reads other;
+        writes = λ other. written.rest.writes other ∙ read.rest.writes other;
+        taken = λ other. written.rest.taken other ∙ read.rest.taken other;
+        unkept = λ other. written.rest.unkept other ∙ read.rest.unkept other;
+        known = λ other is. written.rest.known other (read.rest.known other is);
+      };
+      input_known = written.rest.known (input ws k) read.known;
+      output_known = written.known;
+    }
+  where
+    split_off : ℕ → List Entry → Passed Entry
+    split_off n h = record { gate = gate; who = n + 1; seen = h; mine = []; turn = None; root = false; out = 0; given = 0; kept = [] }
+
+    fresh_pass : split_off given seen ≡ split_off k []
+    fresh_pass = ap (λ (n : ℕ). split_off n seen) given_is ∙ ap (λ (h : List Entry). split_off k h) seen_is

@@ -14,7 +14,7 @@ use Rattle.version_store.specs.Sharing.{IsOwn, maker}
 use Rattle.version_store.specs.declared.history.Entry.{Entry}
 use Rattle.view_ends.specs.Calls.{Shuts, Keeps}
 use Rattle.view_ends.specs.Desk.{Said, IsKnown, Untouched}
-use Rattle.view_ends.specs.Ends.{AllStay, OthersStay, NoneForgotten}
+use Rattle.view_ends.specs.Ends.{AllStay, OthersStay, NoneForgotten, Rose}
 use Rattle.view_ends.specs.Pieces.{SourceSaid, SinkSaid}
 use Rattle.view_ends.specs.declared.fault.EndFault.{EndFault}
 use Rattle.view_words.specs.CommandLine.{badword, IsLine}
@@ -26,7 +26,7 @@ use Rattle.view_commands.specs.Serve.{input, output, HasPair, Empties, IsNothing
 use Rattle.view_commands.specs.Texts.{KeepsText}
 use Rattle.view_commands.specs.declared.finishing.Outcomes.{Outcomes}
 use Rattle.view_commands.specs.declared.status.Status as status
-use Rattle.view_commands.specs.declared.status.Status.TheVariants.{Words}
+use Rattle.view_commands.specs.declared.status.Status.TheVariants.{Words, OpenFault, Memory}
 use Rattle.view_commands.specs.declared.told.Ended.{Ended}
 
 -- nothing changed but a file, and what its writing and its keeping count
@@ -66,6 +66,28 @@ pub record IsFresh (tells : Bool) (gate : TableId) (k : ℕ) (seat : Seated) : T
   pub unwritten : IsUnwritten tells seat.output.got seat.output.faults
   pub pass : seat.pass ≡ record { gate = gate; who = k + 1; seen = []; mine = []; turn = None; root = false; out = 0; given = 0; kept = [] }
   pub own : IsOwn seat.pass
+
+-- a name was opened for reading, or why not
+pub record OpensRead (old new : Said) (name : List ℕ) : Type 0 where
+  pub known : IsKnown new name
+  pub rest : Untouched old new
+
+abbrev pub RefusesRead : Said → Said → List ℕ → ℕ → status.Status → Type 0
+RefusesRead old new name at (OpenFault place) = (place ≡ at) × Rose (old.unopened name) (new.unopened name) × OthersStay old.unopened new.unopened name × Untouched (record old { unopened = new.unopened }) new
+RefusesRead old new name at Memory = Untouched old new
+RefusesRead old new name at _ = ⊥
+
+-- a name was opened for writing, or why not
+pub record OpensWritten (tells : Bool) (old new : Said) (name : List ℕ) : Type 0 where
+  pub empty : IsTrue tells → new.file name ≡ Some []
+  pub files : OthersStay old.file new.file name
+  pub known : IsKnown new name
+  pub rest : Untouched (record old { file = new.file }) new
+
+abbrev pub RefusesWritten : Said → Said → List ℕ → ℕ → status.Status → Type 0
+RefusesWritten old new name at (OpenFault place) = (place ≡ at) × Rose (old.writes name) (new.writes name) × Untouched (record old { writes = new.writes }) new
+RefusesWritten old new name at Memory = Untouched old new
+RefusesWritten old new name at _ = ⊥
 
 -- the names of session k were opened just now
 pub record OpensSession (tells : Bool) (old new : Said) (ws : List (List ℕ)) (gate : TableId) (k : ℕ) (seat : Seated) : Type 0 where
@@ -123,12 +145,6 @@ pub record RefusesOpening (tells : Bool) (old new : Said) (ws : List (List ℕ))
   pub cause : NotOpened old new ws opened ended
   pub untaken : (other : List ℕ) → new.taken other ≤ old.taken other
   pub only : OnlyInputs old new ws
-
--- the journal was opened
-pub record OpensJournal (old new : Said) (ws : List (List ℕ)) : Type 0 where
-  pub files : OthersStay old.file new.file (word_at ws JOURNAL)
-  pub rest : Untouched (record old { file = new.file }) new
-  pub known : IsKnown new (word_at ws JOURNAL)
 
 -- all names were opened, those of the sessions for them
 pub record OpensAll (tells : Bool) (old new : Said) (ws : List (List ℕ)) (gate : TableId) (seats : List Seated) : Type 0 where

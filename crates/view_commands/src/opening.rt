@@ -1,10 +1,10 @@
-ghost use Rattle.std.specs.Prelude.{◌≡◌, ◌+◌, ◌*◌, ◌<◌, ◌≤◌, true, None, [], length, vec_capacity, vec_len, IfErr, IfOk, OnOk};
+ghost use Rattle.std.specs.Prelude.{◌≡◌, ◌+◌, ◌*◌, ◌<◌, ◌≤◌, true, None, [], length, vec_capacity, vec_len, IfErr, IfOk, IsSome, IsTrue, OnOk};
 ghost use Rattle.std.specs.Vec.Iter.{into_iter_items};
-ghost use Rattle.version_store.specs.Sharing.{IsOwn};
+ghost use Rattle.view_ends.specs.Calls.{IsFreshIn};
 ghost use Rattle.view_base.specs.Fitting.{word_at};
 ghost use Rattle.view_words.specs.CommandLine.{IsLine, texts};
 ghost use Rattle.view_commands.specs.Serve.{HasPair, input, output};
-ghost use Rattle.view_commands.specs.Steps.{AreOpened, EachFrom, IsOpened, IsUnread, IsUnwritten, OpensAll, OpensJournal, OpensSession, RefusesNext, RefusesOpening, ShutsUnread};
+ghost use Rattle.view_commands.specs.Steps.{AreOpened, EachFrom, IsOpened, IsUnread, IsUnwritten, OpensAll, OpensRead, OpensSession, OpensWritten, RefusesNext, RefusesOpening, RefusesRead, RefusesWritten, ShutsUnread};
 
 use crate::places::{INPUT, JOURNAL, OUTPUT};
 use crate::seats::Seat;
@@ -69,7 +69,7 @@ pub(crate) fn open_all<D: Desk>(
     ensures fits { length seats.new.items ≤ count }
 {
     open_sessions(alloc, desk, words, count, shared, root, seats)?;
-    open_journal(desk, words, count)
+    open_written(desk, words, JOURNAL)
 }
 
 /// Opens the names of the sessions.
@@ -121,32 +121,41 @@ fn open_session<D: Desk>(
     ensures root { OnOk result (root.new ≡ record root.old { out = root.old.out + 1; given = root.old.given + 1 }) }
     ensures refused { IfErr result (λ status. RefusesNext (D.says desk.old) (D.says desk.new) (texts words.now) k status) }
 {
-    let (read, written) = (input_name(words, k), output_name(words, k));
-    let input = match desk.open_in(read) {
-        Ok(input) => input,
-        Err(EndFault::Failed) => return Err(Status::OpenFault { at: INPUT + 2 * k }),
-        Err(EndFault::Memory) => return Err(Status::Memory),
-    };
-    let refusal = match desk.open_out(written) {
-        Ok(output) => return Ok(Seat::new(alloc, input, output, shared.split(root))),
-        Err(EndFault::Failed) => Status::OpenFault { at: OUTPUT + 2 * k },
-        Err(EndFault::Memory) => Status::Memory,
-    };
-    desk.shut(read, input);
-    Err(refusal)
+    let input = open_read(desk, words, INPUT + 2 * k)?;
+    match open_written(desk, words, OUTPUT + 2 * k) {
+        Ok(output) => Ok(Seat::new(alloc, input, output, shared.split(root))),
+        Err(status) => {
+            desk.shut(input_name(words, k), input);
+            Err(status)
+        }
+    }
 }
 
-/// Opens the journal, once the names of all sessions are opened.
-fn open_journal<D: Desk>(desk: &mut D, words: &[String], count: u32) -> Result<D::Out, Status>
-    requires pairs { length words.now ≡ 4 + 2 * count }
-    requires some { 1 ≤ count }
-    ensures fresh { IfOk result (λ out. IsUnwritten D.tells (D.Out.got out) (D.Out.faults out)) }
-    ensures opened { OnOk result (OpensJournal (D.says desk.old) (D.says desk.new) (texts words.now)) }
-    ensures refused { IfErr result (λ status. RefusesNext (D.says desk.old) (D.says desk.new) (texts words.now) count status) }
+/// Opens the name at a place for reading.
+fn open_read<D: Desk>(desk: &mut D, words: &[String], at: u32) -> Result<D::In, Status>
+    requires { at < length words.now }
+    ensures fresh { IfOk result (λ input. IsFreshIn ((D.says desk.old).file (word_at (texts words.now) at)) (D.In.left input) (D.In.taken input) (D.In.faults input)) }
+    ensures there { IsTrue D.tells → OnOk result (IsSome ((D.says desk.old).file (word_at (texts words.now) at))) }
+    ensures opened { OnOk result (OpensRead (D.says desk.old) (D.says desk.new) (word_at (texts words.now) at)) }
+    ensures refused { IfErr result (λ status. RefusesRead (D.says desk.old) (D.says desk.new) (word_at (texts words.now) at) at status) }
 {
-    match desk.open_out(journal_name(words)) {
-        Ok(journal) => Ok(journal),
-        Err(EndFault::Failed) => Err(Status::OpenFault { at: JOURNAL }),
+    match desk.open_in(text_at(words, at as usize)) {
+        Ok(input) => Ok(input),
+        Err(EndFault::Failed) => Err(Status::OpenFault { at }),
+        Err(EndFault::Memory) => Err(Status::Memory),
+    }
+}
+
+/// Opens the name at a place for writing.
+fn open_written<D: Desk>(desk: &mut D, words: &[String], at: u32) -> Result<D::Out, Status>
+    requires { at < length words.now }
+    ensures fresh { IfOk result (λ out. IsUnwritten D.tells (D.Out.got out) (D.Out.faults out)) }
+    ensures opened { OnOk result (OpensWritten D.tells (D.says desk.old) (D.says desk.new) (word_at (texts words.now) at)) }
+    ensures refused { IfErr result (λ status. RefusesWritten (D.says desk.old) (D.says desk.new) (word_at (texts words.now) at) at status) }
+{
+    match desk.open_out(text_at(words, at as usize)) {
+        Ok(output) => Ok(output),
+        Err(EndFault::Failed) => Err(Status::OpenFault { at }),
         Err(EndFault::Memory) => Err(Status::Memory),
     }
 }
