@@ -1,5 +1,5 @@
 -- What the sessions' names count once all sessions are finished in order.
-use Rattle.std.proofs.Common.{◌≡◌, ◌≢◌, ℕ, suc, ◌+◌, ◌*◌, ◌<◌, ◌≤◌, List, [], ◌∷◌, length, Option, refl, sym, ◌∙◌, ap, subst, arith, inl, inr, Ok, Err}
+use Rattle.std.proofs.Common.{◌≡◌, ◌≢◌, ℕ, zero, suc, ◌+◌, ◌*◌, ◌<◌, ◌≤◌, List, [], ◌∷◌, length, Option, refl, sym, ◌∙◌, ap, subst, arith, inl, inr, Ok, Err}
 use Rattle.std.specs.Prelude.{◌⊎◌, Result, slice_get, Some}
 use Rattle.sessions.specs.Listening.{Read, Wrote, reason_of}
 use Rattle.sessions.specs.declared.end.Reason as reason
@@ -114,7 +114,7 @@ finished-all ws n k (seat ∷ seats) (one ∷ kept) old new line pairs within fi
 
     each : (mid : Said) → Finishes old mid (input ws k) (output ws k) seat one → AreFinished mid new ws (k + 1) seats kept
         → (j : ℕ) (this : Seated) (how : reason.Reason) → slice_get (seat ∷ seats) j ≡ Some this → slice_get (one ∷ kept) j ≡ Some how → IsFinished old new (input ws (k + j)) (output ws (k + j)) this how
-    each mid first rest 0 this how is also =
+    each mid first rest zero this how is also =
         let same_seat : seat ≡ this = cc is in
         let same_one : one ≡ how = cc also in
         let reads = rest.reading (input ws k) input_after in

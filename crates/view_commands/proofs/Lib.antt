@@ -7,6 +7,8 @@ pub mod JournalText
 pub mod Faults
 pub mod Openings
 pub mod Begun
+pub mod Chains
+pub mod RunFinished
 pub mod Finished
 pub mod Passes
 mod LaterStub

@@ -60,7 +60,7 @@ opened-more tells old mid new ws gate seats n k seat line pairs within size open
   };
   each = each-append (IsOpened tells old new ws gate) 0 seats seat
       (each-map (IsOpened tells old mid ws gate) (IsOpened tells old new ws gate) 0 seats (λ j one is. opened-later tells old mid new ws gate j one opens.rest.known is) opened.each)
-      (subst (λ (m : ℕ). IsOpened tells old new ws gate m seat) (sym size) here);
+      (subst (λ (m : ℕ). IsOpened tells old new ws gate m seat) (omega (arith, size)) here);
 }
   where
     longer : length (seats ++ seat ∷ []) ≡ k + 1

@@ -21,10 +21,10 @@ use Rattle.view_commands.specs.Texts.{KeepsText}
 use Rattle.view_commands.proofs.Lists.{at-within, below, map_slice_get, slice_get-map}
 
 -- a reason of no fault from outside
-IsQuiet : reason.Reason → Type 0
+abbrev IsQuiet : reason.Reason → Type 0
 IsQuiet reason = (reason ≡ Finished) ⊎ (reason ≡ Memory)
 
-EndsQuiet : status.Status → Type 0
+abbrev EndsQuiet : status.Status → Type 0
 EndsQuiet status = (status ≡ state.Done) ⊎ (status ≡ state.Memory)
 
 quiet-first : (at : ℕ) (reasons : List reason.Reason) (last : status.Status) → ((k : ℕ) (one : reason.Reason) → slice_get reasons k ≡ Some one → IsQuiet one) → EndsQuiet last → EndsQuiet (first_fault at reasons last)
@@ -108,8 +108,8 @@ sessions-settle tells old new ws b ended runs calm journal =
 pub not_opened-settles : (old new : Said) (ws : List (List ℕ)) (n : ℕ) (status : status.Status) → NotOpened old new ws n status → ((k : ℕ) → HasPair ws k → IsCalm old new ws k) → (Rose (old.writes (word_at ws JOURNAL)) (new.writes (word_at ws JOURNAL)) → ⊥)
     → (status ≡ state.Done) ⊎ (status ≡ state.Memory)
 not_opened-settles old new ws n (state.OpenFault at) (inl none) calm journal = absurd ((calm n none.1).opened (subst (λ (m : ℕ). Rose (old.unopened (word_at ws m)) (new.unopened (word_at ws m))) none.0 none.2))
-not_opened-settles old new ws n (state.OpenFault at) (inr (inl pair, none)) calm journal = absurd ((calm n pair.1).written (subst (λ (m : ℕ). Rose (old.writes (word_at ws m)) (new.writes (word_at ws m))) pair.0 none.0))
-not_opened-settles old new ws n (state.OpenFault at) (inr (inr all, none)) calm journal = absurd (journal (subst (λ (m : ℕ). Rose (old.writes (word_at ws m)) (new.writes (word_at ws m))) all.0 none.0))
+not_opened-settles old new ws n (state.OpenFault at) (inr (inl pair, rose, rest)) calm journal = absurd ((calm n pair.1).written (subst (λ (m : ℕ). Rose (old.writes (word_at ws m)) (new.writes (word_at ws m))) pair.0 rose))
+not_opened-settles old new ws n (state.OpenFault at) (inr (inr all, rose, rest)) calm journal = absurd (journal (subst (λ (m : ℕ). Rose (old.writes (word_at ws m)) (new.writes (word_at ws m))) all.0 rose))
 not_opened-settles old new ws n state.Memory none calm journal = inr refl
 not_opened-settles old new ws n state.Done none calm journal = absurd none
 not_opened-settles old new ws n (state.Words at) none calm journal = absurd none

@@ -5,8 +5,8 @@ use Rattle.view_commands.specs.Steps.{IsServed, Seated}
 use Rattle.view_commands.proofs.Lists.{zip-append}
 use Rattle.view_commands.proofs.side_by_side.+fn-serve_all-join_mut+arg2+fn-serve_all-join_mut+arg3+serve_all.Goals as goal
 
-pub returns-then-count-gt1 : goal.returns-then-count-gt1
-returns-then-count-gt1 g t c =
+pub returns : goal.returns
+returns g t c =
     let b = arc_value c.args.world.now.scene.survey in
     let front : AllZip (IsServed b) c.split_at_mut-front.result.0.now c.front-1.given.0 = search rules in
     let back : AllZip (IsServed b) c.split_at_mut-front.result.1.now c.back-1.given.0 = search rules in
