@@ -1,5 +1,5 @@
 -- What the program does for the words of its command line.
-use Rattle.std.specs.Prelude.{◌≡◌, ℕ, Bool, List, [], ◌∷◌, length, Some}
+use Rattle.std.specs.Prelude.{◌≡◌, ℕ, Bool, List, [], ◌∷◌, Some}
 use Rattle.survey_info.specs.Text.{info_text}
 use Rattle.view_ends.specs.Desk.{Said, Untouched}
 use Rattle.view_base.specs.Fitting.{word_at}
@@ -10,7 +10,7 @@ use Rattle.view_commands.specs.declared.status.Status as status
 use Rattle.view_commands.specs.declared.status.Status.TheVariants.{Words, NotYet}
 use Rattle.view_commands.specs.declared.told.Ended.{Ended}
 use Rattle.view_commands.specs.Texts.{DrawsView, view_in, MakesText, refuses_none}
-use Rattle.view_commands.specs.Serve.{IsNothing, ServesOne}
+use Rattle.view_commands.specs.Serve.{IsNothing, ServesLine}
 
 -- a command that ended so before it touched a file, and tells nothing
 pub record EndsAtOnce (old new : Said) (is : status.Status) (ended : Ended) : Type 0 where
@@ -18,22 +18,12 @@ pub record EndsAtOnce (old new : Said) (is : status.Status) (ended : Ended) : Ty
   pub untouched : Untouched old new
   pub told : IsNothing ended.told
 
--- a `serve` whose words fit: with one pair it serves it, and with more it is not built yet
-pub record RunsServe (tells : Bool) (old new : Said) (ws : List (List ℕ)) (ended : Ended) : Type 0 where
-  pub one : length ws ≡ 6 → ServesOne tells old new (word_at ws 1) (word_at ws 3) (word_at ws 4) (word_at ws 5) ended
-  pub more : (length ws ≡ 6 → ⊥) → EndsAtOnce old new NotYet ended
-
 -- the command of a row whose words fit; one without sessions tells nothing beside its status
 abbrev pub RunsLine : row.Row → Bool → Said → Said → List (List ℕ) → Ended → Type 0
 RunsLine Draw tells old new ws ended = DrawsView tells old new ws (view_in ws) ended.status × IsNothing ended.told
 RunsLine Info tells old new ws ended = MakesText tells old new (word_at ws 1) (word_at ws 2) refuses_none info_text ended.status × IsNothing ended.told
 RunsLine Trial tells old new ws ended = EndsAtOnce old new NotYet ended
-RunsLine Serve tells old new ws ended = RunsServe tells old new ws ended
-
--- words that begin with the command of a row are answered by the first that is refused, or else as a line of the row
-pub record RunsRow (row : row.Row) (tells : Bool) (old new : Said) (ws : List (List ℕ)) (ended : Ended) : Type 0 where
-  pub refused : (at : ℕ) → badword (row ∷ []) ws ≡ Some at → EndsAtOnce old new (Words at) ended
-  pub line : IsLine row ws → RunsLine row tells old new ws ended
+RunsLine Serve tells old new ws ended = ServesLine tells old new ws ended
 
 -- words that are refused are answered by the first refused one, and those that fit a row by its command
 pub record Runs (tells : Bool) (old new : Said) (ws : List (List ℕ)) (ended : Ended) : Type 0 where

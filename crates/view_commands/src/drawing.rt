@@ -9,11 +9,13 @@ ghost use Rattle.view_words.specs.CommandLine.{IsLine, texts};
 use crate::status::Status;
 use crate::texts::{read_survey, write_text};
 use class_pages::base;
+use grid_blocks::build_by_number;
 use las_points::can_colour;
 use las_survey::Survey;
 use sessions::{Scene, picture};
 use std::alloc::Global;
 use std::sync::Arc;
+use std::thread::Threads;
 use view_base::{Bytes, OutOfMemory};
 use view_ends::{Beside, Desk};
 use view_text::{TextFault, ViewSpec};
@@ -27,11 +29,17 @@ use view_words::{Row, read_draw, text_at, workers};
 /// doesn't have, and an output that was not opened or not written. The picture is whole in memory
 /// before its file is opened, so no refusal before that touches a file. How many workers draw it
 /// changes no byte.
-pub fn draw<D: Desk, B: Beside>(alloc: Global, words: &[String], desk: &mut D, beside: &B) -> Status
+pub fn draw<R: Threads + Sync, D: Desk, B: Beside>(
+    alloc: Global,
+    rt: &R,
+    words: &[String],
+    desk: &mut D,
+    beside: &B,
+) -> Status
     ensures { AnswersDraw D.tells (D.says desk.old) (D.says desk.new) (texts words.now) result }
 {
     match read_draw(words) {
-        Ok(view) => draw_view(alloc, words, &view, desk, beside),
+        Ok(view) => draw_view(alloc, rt, words, &view, desk, beside),
         Err(fault) => match fault {
             TextFault::Line { at } => Status::Words { at },
             TextFault::Limit(limit) => Status::Limit(limit),
@@ -40,8 +48,9 @@ pub fn draw<D: Desk, B: Beside>(alloc: Global, words: &[String], desk: &mut D, b
 }
 
 /// Writes the picture of a view under the names of the words of a `draw`, which fit.
-fn draw_view<D: Desk, B: Beside>(
+fn draw_view<R: Threads + Sync, D: Desk, B: Beside>(
     alloc: Global,
+    rt: &R,
     words: &[String],
     view: &ViewSpec,
     desk: &mut D,
@@ -53,12 +62,13 @@ fn draw_view<D: Desk, B: Beside>(
 {
     let workers = workers(Row::Draw, words);
     let (name, out) = (text_at(words, 1), text_at(words, 2));
-    draw_file(alloc, name, out, view, workers, desk, beside)
+    draw_file(alloc, rt, name, out, view, workers, desk, beside)
 }
 
 /// Draws the survey of one name into the file of another.
-fn draw_file<D: Desk, B: Beside>(
+fn draw_file<R: Threads + Sync, D: Desk, B: Beside>(
     alloc: Global,
+    rt: &R,
     name: &str,
     out: &str,
     view: &ViewSpec,
@@ -77,15 +87,16 @@ fn draw_file<D: Desk, B: Beside>(
     if !can_colour(format, view.colouring) {
         return Status::NoColour { format };
     }
-    match picture_of(alloc, survey, view, workers, beside) {
+    match picture_of(alloc, rt, survey, view, workers, beside) {
         Ok(bytes) => write_text(desk, out, bytes.as_slice()),
         Err(OutOfMemory) => Status::Memory,
     }
 }
 
 /// The picture of a survey as the file itself has its classes.
-fn picture_of<B: Beside>(
+fn picture_of<R: Threads + Sync, B: Beside>(
     alloc: Global,
+    rt: &R,
     survey: Survey,
     view: &ViewSpec,
     workers: u32,
@@ -95,12 +106,14 @@ fn picture_of<B: Beside>(
     requires can_colour { can_colour (format_of survey) view.now.colouring ≡ true }
     ensures { IfOk result (λ bytes. bytes.items ≡ drawn survey view.now) }
 {
+    let blocks = build_by_number(alloc, &survey)?;
     let scene = Scene {
         survey: Arc::new(alloc, survey)?,
+        blocks,
         workers,
     };
     let classes = base(alloc, &scene.survey)?;
     let mut bytes = Bytes::new(alloc);
-    picture(alloc, &scene, &classes, view, beside, &mut bytes)?;
+    picture(alloc, rt, &scene, &classes, view, beside, &mut bytes)?;
     Ok(bytes)
 }

@@ -3,12 +3,15 @@
 #![tactic(auto)]
 
 mod drawing;
+mod finishing;
 mod informing;
 mod journal;
 mod opening;
 mod places;
 mod running;
+mod seats;
 mod serving;
+mod side_by_side;
 mod status;
 mod texts;
 mod told;

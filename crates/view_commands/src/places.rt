@@ -7,8 +7,10 @@ pub(crate) const OUT: u32 = 2;
 /// The place of the journal's name in a `serve`.
 pub(crate) const JOURNAL: u32 = 3;
 
-/// The place there of the name of the first session's input.
+/// The place there of the name of the first session's input. That of each next one is two
+/// places on.
 pub(crate) const INPUT: u32 = 4;
 
-/// The place there of the name of its output.
+/// The place there of the name of the first session's output. That of each next one is two places
+/// on.
 pub(crate) const OUTPUT: u32 = 5;
