@@ -45,7 +45,8 @@ pub fn serve_session<R: Threads + Wait + Sync, I: Source, O: Sink, B: Beside>(
     requires outside { pass.old.turn ≡ None }
     requires own { IsOwn pass.old }
     requires given_back { HasGivenBack pass.old.seen pass.old.who }
-    ensures served { Served (arc_value world.now.scene.survey) pass.old.seen pass.new.seen pass.old.who (I.left source.old) (O.got sink.old) (O.got sink.new) result.marks.items result.reason result.taken }
+    ensures served { Served (arc_value world.now.scene.survey) pass.old.seen pass.new.seen pass.old.who
+        (I.left source.old) (O.got sink.old) (O.got sink.new) result.marks.items result.reason result.taken }
     ensures own { IsOwn pass.new }
     ensures pass { pass.new ≡ record pass.old { seen = pass.new.seen; mine = pass.new.mine } }
     ensures given_back { HasGivenBack pass.new.seen pass.old.who }
