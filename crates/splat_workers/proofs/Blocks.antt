@@ -1,8 +1,7 @@
 -- The records of one block.
-use Rattle.std.proofs.Common.{◌≡◌, ℕ, zero, suc, ◌+◌, ◌<◌, ◌≤◌, List, [], ◌∷◌, length, get_or, take, drop, Option, Some, None, refl, sym, ◌∙◌, ap, arith}
+use Rattle.std.proofs.Common.{◌≡◌, ℕ, zero, suc, ◌+◌, ◌<◌, ◌≤◌, List, [], ◌∷◌, length, get_or, take, drop, Some, refl, sym, ◌∙◌, ap, arith}
 use Rattle.std.specs.Prelude.{slice_get}
 use Rattle.std.specs.List.{All, flat_map, range_with_len}
-use Rattle.std.specs.List.Sorted.{IsPermutation}
 use Rattle.std.proofs.lemmas.List.Elements.{All-same, All-take, All-drop}
 use Rattle.std.proofs.lemmas.List.Sorted.{All-permutation}
 use Rattle.std.proofs.lemmas.List.FromFn.{length-range_with_len, get_or-range_with_len}
@@ -11,7 +10,7 @@ use Rattle.view_meaning.specs.Classes.{Filter}
 use Rattle.view_meaning.specs.Camera.{Lens}
 use Rattle.grid_blocks.specs.declared.block.Block.{Block}
 use Rattle.grid_blocks.specs.Blocks.{Blocked, IsBlocks, part}
-use Rattle.grid_blocks.proofs.Once.{length-once, part-range}
+use Rattle.grid_blocks.proofs.Once.{part-range}
 use Rattle.splat_workers.specs.Pairs.{pair_of, members_in, block_pairs}
 
 -- the pairs of a block are those of its members

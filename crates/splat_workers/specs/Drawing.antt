@@ -1,9 +1,9 @@
 -- What workers draw of a plan on a frame.
-use Rattle.std.specs.Prelude.{◌≡◌, ◌↔◌, ℕ, ◌*◌, ◌<◌, Bool, false, List, [], length, slice_index}
+use Rattle.std.specs.Prelude.{◌≡◌, ◌↔◌, ℕ, ◌*◌, ◌<◌, List, length, slice_index}
 use Rattle.std.specs.List.{All, Contains, flat_map}
 use Rattle.view_meaning.specs.Survey.{record_count}
 use Rattle.grid_blocks.specs.Blocks.{IsBlocks}
-use Rattle.min_frame.specs.Meaning.{Framed, Seated}
+use Rattle.min_frame.specs.Meaning.{Framed}
 use Rattle.splat_workers.specs.declared.plan.Plan.{Plan}
 use Rattle.splat_workers.specs.Pairs.{block_pairs}
 

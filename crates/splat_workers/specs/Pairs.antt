@@ -1,5 +1,5 @@
 -- What is plotted of a survey: pairs of a pixel and a value, which has a depth above a record's number.
-use Rattle.std.specs.Prelude.{ℕ, ◌+◌, ◌*◌, ◌^◌, if◌then◌else◌, List, [], ◌∷◌, slice_get, slice_index, Option, Some, None}
+use Rattle.std.specs.Prelude.{ℕ, ◌+◌, ◌*◌, ◌^◌, if◌then◌else◌, List, [], ◌∷◌, slice_get, Option, Some, None}
 use Rattle.std.specs.List.{flat_map}
 use Rattle.view_meaning.specs.Survey.{point_of}
 use Rattle.view_meaning.specs.Classes.{Filter, passes}

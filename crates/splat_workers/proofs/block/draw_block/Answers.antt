@@ -1,4 +1,4 @@
-use Rattle.std.proofs.Common.{◌≡◌, ◌∙◌, ap, arith, sym}
+use Rattle.std.proofs.Common.{◌∙◌, ap, arith}
 use Rattle.grid_blocks.proofs.Once.{length-once}
 use Rattle.view_meaning.specs.Survey.{record_count}
 use Rattle.splat_workers.proofs.Blocks.{block_at, block_pairs-part, part_below, part-numbered}

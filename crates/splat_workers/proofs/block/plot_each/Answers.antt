@@ -1,4 +1,4 @@
-use Rattle.std.proofs.Common.{◌≡◌, ◌<◌, slice_index, arith}
+use Rattle.std.proofs.Common.{◌<◌, slice_index, arith}
 use Rattle.view_meaning.specs.Survey.{point_of, record_count}
 use Rattle.splat_workers.specs.Pairs.{pair_of}
 use Rattle.splat_workers.proofs.Plotting.{plotting-more, pairs-take, pair_of-passes, passes-any, at_place}

@@ -1,5 +1,4 @@
-use Rattle.std.proofs.Common.{◌≡◌, ◌+◌, ◌<◌, arith}
-use Rattle.view_meaning.specs.Survey.{record_count}
+use Rattle.std.proofs.Common.{◌+◌, ◌<◌, arith}
 use Rattle.view_meaning.proofs.Reading.{point-from_part}
 use Rattle.splat_workers.specs.Pairs.{pair_of}
 use Rattle.splat_workers.proofs.Plotting.{plotting-more, pairs-range, pair_of-passes, passes-any}
