@@ -1,5 +1,6 @@
 use crate::desks::{File, Shelf, command, fill, holds};
 use crate::drawing::CLASS_6;
+use crate::host::Host;
 use crate::plain::{ONE, plain};
 use crate::same::same;
 use crate::serving::{SERVE, command_ended, entries_are, joined, session_ended};
@@ -43,10 +44,10 @@ fn prepare(alloc: Global, desk: &mut MemDesk, call: Call) -> Result<(), Fail> {
 }
 
 /// Serves the script, with one call that is to fail, which has to leave these files.
-fn broken(rt: &impl Abort, alloc: Global, call: Call, after: &[File]) -> Result<Ended, Fail> {
+fn broken(rt: &impl Host, alloc: Global, call: Call, after: &[File]) -> Result<Ended, Fail> {
     let mut desk = MemDesk::empty(alloc);
     prepare(alloc, &mut desk, call)?;
-    let ended = command(alloc, &mut desk, SERVE)?;
+    let ended = command(rt, alloc, &mut desk, SERVE)?;
     holds(rt, &desk, after, call.0);
     Ok(ended)
 }
@@ -64,7 +65,7 @@ fn never_ran(rt: &impl Abort, ended: &Ended) {
 
 /// Serves with an opening that fails, of the word at this place.
 fn opening_fails(
-    rt: &impl Abort,
+    rt: &impl Host,
     alloc: Global,
     call: Call,
     at: u32,
@@ -93,7 +94,7 @@ fn an_opening_that_fails_runs_no_session(rt: HostRuntime) -> Result<(), Fail> {
 /// Serves with a read that fails at this place, which has to leave this output and this journal,
 /// and these marks.
 fn read_fails(
-    rt: &impl Abort,
+    rt: &impl Host,
     alloc: Global,
     at: u64,
     out: &[u8],
@@ -109,7 +110,7 @@ fn read_fails(
 }
 
 /// Serves with a read that fails at each of some places, where the output gets this at most.
-fn reads_fail(rt: &impl Abort, alloc: Global, all: &[u8]) -> Result<(), Fail> {
+fn reads_fail(rt: &impl Host, alloc: Global, all: &[u8]) -> Result<(), Fail> {
     let none = b"".as_slice();
     let reply = &all[..EDITED.min(all.len())];
     read_fails(rt, alloc, 0, none, none, &[])?;
@@ -125,7 +126,7 @@ fn a_read_that_fails_ends_a_session_at_the_lines_before(rt: HostRuntime) -> Resu
 }
 
 /// Serves with a write that fails once the output got this front.
-fn write_fails(rt: &impl Abort, alloc: Global, front: &[u8]) -> Result<(), Fail> {
+fn write_fails(rt: &impl Host, alloc: Global, front: &[u8]) -> Result<(), Fail> {
     let at = front.len();
     let call = ("o", DeskCall::Give, at as u64);
     let ended = broken(rt, alloc, call, &[("o", front), ("j", LINE)])?;
@@ -142,7 +143,7 @@ fn write_fails(rt: &impl Abort, alloc: Global, front: &[u8]) -> Result<(), Fail>
 }
 
 /// Serves with a write that fails at each place of the output.
-fn writes_fail(rt: &impl Abort, alloc: Global, all: &[u8]) -> Result<(), Fail> {
+fn writes_fail(rt: &impl Host, alloc: Global, all: &[u8]) -> Result<(), Fail> {
     for at in 0..all.len() {
         write_fails(rt, alloc, &all[..at])?;
     }
@@ -157,7 +158,7 @@ fn a_write_that_fails_ends_a_session_at_that_byte(rt: HostRuntime) -> Result<(),
 /// Serves with a call that fails after the session: the status' place, the journal's reason, and
 /// the other file have to be these.
 fn late(
-    rt: &impl Abort,
+    rt: &impl Host,
     alloc: Global,
     call: Call,
     at: u32,
@@ -170,7 +171,7 @@ fn late(
 }
 
 /// Serves with each call that can fail after the session, where the output gets this.
-fn late_ones(rt: &impl Abort, alloc: Global, all: &[u8]) -> Result<(), Fail> {
+fn late_ones(rt: &impl Host, alloc: Global, all: &[u8]) -> Result<(), Fail> {
     let done = Reason::Finished;
     late(rt, alloc, ("o", DeskCall::Keep, 0), 5, done, ("j", LINE))?;
     let failed = Reason::WriteFault;
@@ -185,11 +186,11 @@ fn a_keeping_or_a_journal_that_fails_comes_after_the_session(rt: HostRuntime) ->
 }
 
 /// Serves where neither the output nor the journal can be kept: the output's failure counts.
-fn neither_is_kept(rt: &impl Abort, alloc: Global) -> Result<(), Fail> {
+fn neither_is_kept(rt: &impl Host, alloc: Global) -> Result<(), Fail> {
     let mut desk = MemDesk::empty(alloc);
     prepare(alloc, &mut desk, ("o", DeskCall::Keep, 0))?;
     desk.fail("j", DeskCall::Keep, 0)?;
-    let ended = command(alloc, &mut desk, SERVE)?;
+    let ended = command(rt, alloc, &mut desk, SERVE)?;
     let status = Status::WriteFault { at: 5 };
     command_ended(rt, &ended, status, Reason::WriteFault);
     Ok(())
@@ -212,7 +213,7 @@ fn prepare_count(alloc: Global, desk: &mut MemDesk) -> Result<(), Fail> {
 fn a_count_is_answered_before_a_read_that_fails(rt: HostRuntime) -> Result<(), Fail> {
     let mut desk = MemDesk::empty(rt.alloc());
     prepare_count(rt.alloc(), &mut desk)?;
-    let ended = command(rt.alloc(), &mut desk, SERVE)?;
+    let ended = command(&rt, rt.alloc(), &mut desk, SERVE)?;
     holds(&rt, &desk, &[("o", b"COUNT 0 1\n"), ("j", b"")], "a count");
     command_ended(&rt, &ended, Status::ReadFault { at: 4 }, Reason::Finished);
     session_ended(&rt, &ended, Reason::ReadFault, 15, &[0]);
