@@ -121,7 +121,7 @@ pub(crate) fn joined(alloc: Global, pieces: &[&[u8]]) -> Result<Vec<u8>, Fail> {
 }
 
 /// These replies' heads, and then the survey of one point at (0, 0, 5) with this class byte.
-fn then_file(alloc: Global, heads: &[u8], class: u8) -> Result<Vec<u8>, Fail> {
+pub(crate) fn then_file(alloc: Global, heads: &[u8], class: u8) -> Result<Vec<u8>, Fail> {
     let survey = plain(alloc, &[(0, 0, 5, class)])?;
     joined(alloc, &[heads, survey.as_slice()])
 }
