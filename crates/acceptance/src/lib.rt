@@ -43,8 +43,6 @@ mod sixteen;
 #[cfg(test)]
 mod telling;
 #[cfg(test)]
-mod turns;
-#[cfg(test)]
 mod views;
 #[cfg(test)]
 mod waiting;
