@@ -1,8 +1,8 @@
 use crate::desks::{File, leaves};
 use crate::drawing::{CLASS_2, draws};
+use crate::host::Host;
 use crate::plain::{ONE, plain};
 use std::alloc::Global;
-use std::process::Abort;
 use std::test::Fail;
 use view_commands::Status;
 use view_ends::{MemDesk, StillDesk};
@@ -18,7 +18,7 @@ pub(crate) const TEXT: &[u8] =
     b"LAS 1.4\nheader 375\nformat 0\nlength 20\nrecords 1\nvlrs 0\nevlrs 0\nbytes 395\nbox 0 0 5 0 0 5\nclass 2 1\n";
 
 /// Draws with so many workers as the line says, which has to give the picture of the one point.
-fn all_draw(rt: &impl Abort, alloc: Global, survey: &[u8]) -> Result<(), Fail> {
+fn all_draw(rt: &impl Host, alloc: Global, survey: &[u8]) -> Result<(), Fail> {
     for line in [
         "draw a.las a.ppm 1 ortho 1 1 0 0 0 1 0 0 0 1 0 0 0 1 1 1 0 10 class all show",
         "draw a.las a.ppm 33 ortho 1 1 0 0 0 1 0 0 0 1 0 0 0 1 1 1 0 10 class all show",
@@ -30,7 +30,7 @@ fn all_draw(rt: &impl Abort, alloc: Global, survey: &[u8]) -> Result<(), Fail> {
 }
 
 /// Serves with so many workers as the line says, which has to answer the view.
-fn all_serve(rt: &impl Abort, alloc: Global, survey: &[u8]) -> Result<(), Fail> {
+fn all_serve(rt: &impl Host, alloc: Global, survey: &[u8]) -> Result<(), Fail> {
     let before: [File; 2] = [("a.las", survey), ("i", VIEW)];
     let after: [File; 2] = [("o", REPLY), ("j", b"")];
     for line in [
@@ -52,7 +52,7 @@ fn ample_memory_is_enough_for_any_number_of_workers(rt: HostRuntime) -> Result<(
 }
 
 /// Tells of the survey, which has to give the text.
-fn info_tells(rt: &impl Abort, alloc: Global, survey: &[u8]) -> Result<(), Fail> {
+fn info_tells(rt: &impl Host, alloc: Global, survey: &[u8]) -> Result<(), Fail> {
     let before: [File; 1] = [("a.las", survey)];
     let after: [File; 1] = [("a.txt", TEXT)];
     let line = "info a.las a.txt";

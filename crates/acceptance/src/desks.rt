@@ -1,3 +1,4 @@
+use crate::host::Host;
 use crate::plain::words;
 use crate::same::same;
 use std::alloc::Global;
@@ -67,19 +68,24 @@ pub(crate) fn fill(alloc: Global, desk: &mut impl Shelf, files: &[File]) -> Resu
 }
 
 /// Runs a line of the command line.
-pub(crate) fn command(alloc: Global, desk: &mut impl Desk, line: &str) -> Result<Ended, Fail> {
-    Ok(run(alloc, &words(alloc, line)?, desk, &NoBeside))
+pub(crate) fn command(
+    rt: &impl Host,
+    alloc: Global,
+    desk: &mut impl Desk,
+    line: &str,
+) -> Result<Ended, Fail> {
+    Ok(run(alloc, rt, &words(alloc, line)?, desk, &NoBeside))
 }
 
 /// Runs a line of the command line, which has to end so.
 pub(crate) fn ends(
-    rt: &impl Abort,
+    rt: &impl Host,
     alloc: Global,
     desk: &mut impl Desk,
     line: &str,
     status: Status,
 ) -> Result<(), Fail> {
-    let got = command(alloc, desk, line)?.status;
+    let got = command(rt, alloc, desk, line)?.status;
     same(rt, &got, &status, line);
     Ok(())
 }
@@ -93,7 +99,7 @@ pub(crate) fn holds(rt: &impl Abort, desk: &impl Shelf, files: &[File], told: &s
 
 /// Runs a line over a desk with these files, which has to end so and to leave these.
 pub(crate) fn leaves<D: Shelf>(
-    rt: &impl Abort,
+    rt: &impl Host,
     alloc: Global,
     line: &str,
     before: &[File],

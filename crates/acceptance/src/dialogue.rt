@@ -1,16 +1,17 @@
-ghost use Rattle.std.specs.Prelude.{◌≡◌, ◌≤◌, [], None, IfOk};
+ghost use Rattle.std.specs.Prelude.{◌≡◌, ◌≤◌, None};
+ghost use Rattle.sessions.specs.Worlds.{IsWorld, HasGivenBack};
+ghost use Rattle.version_store.specs.Sharing.{IsOwn};
 
-use crate::plain::{ONE, plain};
+use crate::host::Host;
 use crate::same::same;
-use las_survey::load;
-use sessions::{Reason, Scene, SessionEnd, serve_alone};
+use crate::worlds::{next_pass, world};
+use sessions::{Reason, SessionEnd, World, serve_session};
 use std::alloc::Global;
 use std::cell::Cell;
 use std::process::Abort;
-use std::sync::Arc;
 use std::test::Fail;
-use version_store::History;
-use view_ends::{EndFault, Failed, NoBeside, Sink, Source, StillSource};
+use version_store::{History, Pass};
+use view_ends::{EndFault, Failed, NoBeside, Sink, Source};
 
 /// Two lines of a user who waits for the answer to the first before the second is written.
 const LINES: &[u8] = b"edit 0 0 0 9 9 9 all 6\nedit 0 0 0 9 9 9 6 7\n";
@@ -66,22 +67,20 @@ impl<'a> Sink for Hearing<'a> {
     }
 }
 
-/// A scene of one point, for one worker.
-fn scene(rt: &impl Abort, alloc: Global) -> Result<Scene, Fail>
-    ensures { IfOk result (λ scene. (1 ≤ scene.workers) × (scene.workers ≤ 64)) }
-{
-    let mut file = StillSource::new(plain(alloc, &ONE)?);
-    let survey = load(alloc, &mut file).expect(rt, "a survey");
-    Ok(Scene {
-        survey: Arc::new(alloc, survey)?,
-        workers: 1,
-    })
-}
-
-/// Serves the user over a scene, and answers how that ended.
-fn serves(alloc: Global, scene: &Scene, history: &mut History, heard: &Cell<u64>) -> SessionEnd
-    requires workers { (1 ≤ scene.now.workers) × (scene.now.workers ≤ 64) }
-    requires empty { history.old.items ≡ [] }
+/// Serves the user in a world, and answers how that ended.
+fn serves(
+    rt: &impl Host,
+    alloc: Global,
+    world: &World,
+    pass: &mut Pass,
+    heard: &Cell<u64>,
+) -> SessionEnd
+    requires world { IsWorld world.now }
+    requires gate { pass.old.gate ≡ world.now.shared.name }
+    requires outside { pass.old.turn ≡ None }
+    requires own { IsOwn pass.old }
+    requires given_back { HasGivenBack pass.old.seen pass.old.who }
+    ensures pass { pass.new ≡ record pass.old { seen = pass.new.seen; mine = pass.new.mine } }
 {
     let mut source = Asking {
         heard,
@@ -89,7 +88,7 @@ fn serves(alloc: Global, scene: &Scene, history: &mut History, heard: &Cell<u64>
         faults: 0,
     };
     let mut sink = Hearing { heard };
-    serve_alone(alloc, scene, history, &mut source, &mut sink, &NoBeside)
+    serve_session(alloc, rt, world, pass, &mut source, &mut sink, &NoBeside)
 }
 
 /// A session has to have ended well, with two edits that were heard of in 22 bytes.
@@ -103,9 +102,12 @@ fn made_two_edits(rt: &impl Abort, end: &SessionEnd, history: &History, heard: u
 #[test]
 fn a_line_is_answered_before_the_next_is_asked_for(rt: HostRuntime) -> Result<(), Fail> {
     let heard = Cell::new(0);
-    let scene = scene(&rt, rt.alloc())?;
-    let mut history = History::new(rt.alloc());
-    let end = serves(rt.alloc(), &scene, &mut history, &heard);
+    let (world, mut root) = world(&rt, rt.alloc())?;
+    let mut pass = next_pass(&world, &mut root);
+    let end = serves(&rt, rt.alloc(), &world, &mut pass, &heard);
+    let World { shared, .. } = world;
+    shared.join(&mut root, pass);
+    let history = shared.close(root).into_history();
     made_two_edits(&rt, &end, &history, heard.get());
     Ok(())
 }

@@ -1,4 +1,5 @@
 use crate::desks::{File, Shelf, fill, leaves};
+use crate::host::Host;
 use crate::plain::{ONE, Record, gapped, patched, plain, plain_of, words};
 use crate::same::same;
 use std::alloc::Global;
@@ -23,7 +24,7 @@ const NO_RECORD: &[u8] = b"P6\n1 1\n255\n\0\0\0";
 /// A drawing of these bytes by these words has to give this picture, over either desk, and to leave
 /// the survey.
 pub(crate) fn draws(
-    rt: &impl Abort,
+    rt: &impl Host,
     alloc: Global,
     survey: &[u8],
     line: &str,
@@ -37,7 +38,7 @@ pub(crate) fn draws(
 
 /// A drawing of a plain survey of these records has to give this picture.
 fn draws_records(
-    rt: &impl Abort,
+    rt: &impl Host,
     alloc: Global,
     records: &[Record],
     line: &str,
@@ -127,8 +128,8 @@ fn is_black_to_its_end(rt: &impl Abort, picture: &[u8]) {
 }
 
 /// Draws by `draw` itself, which has to end well.
-fn drawn(rt: &impl Abort, alloc: Global, desk: &mut StillDesk, line: &str) -> Result<(), Fail> {
-    let status = draw(alloc, &words(alloc, line)?, desk, &NoBeside);
+fn drawn(rt: &impl Host, alloc: Global, desk: &mut StillDesk, line: &str) -> Result<(), Fail> {
+    let status = draw(alloc, rt, &words(alloc, line)?, desk, &NoBeside);
     same(rt, &status, &Status::Done, line);
     Ok(())
 }
@@ -148,7 +149,7 @@ fn the_largest_products_do_not_wrap(rt: HostRuntime) -> Result<(), Fail> {
 
 /// A drawing by one pixel of a survey with this many bytes has to give this picture.
 fn draws_sized(
-    rt: &impl Abort,
+    rt: &impl Host,
     alloc: Global,
     survey: &[u8],
     size: usize,

@@ -1,6 +1,7 @@
 use crate::ample::TEXT;
 use crate::desks::{Shelf, ends, fill, holds};
 use crate::drawing::{CLASS_2, ONE_PIXEL};
+use crate::host::Host;
 use crate::plain::{ONE, plain};
 use crate::same::same;
 use std::alloc::Global;
@@ -57,7 +58,7 @@ fn counted(rt: &impl Abort, desk: &MemDesk, call: Call, wanted: Counts) {
 
 /// Runs a line with one call that is to fail, which has to end so, and answers the desk.
 fn ended(
-    rt: &impl Abort,
+    rt: &impl Host,
     alloc: Global,
     line: &str,
     call: Call,
@@ -73,7 +74,7 @@ fn ended(
 
 /// Runs a line with one call that is to fail, which has to end so and to leave this in OUT.
 fn leaves(
-    rt: &impl Abort,
+    rt: &impl Host,
     alloc: Global,
     line: &str,
     call: Call,
@@ -102,7 +103,7 @@ fn an_opening_that_fails_leaves_every_file(rt: HostRuntime) -> Result<(), Fail> 
 }
 
 /// Runs a line with a read that fails at each place.
-fn reads_fail(rt: &impl Abort, alloc: Global, line: &str) -> Result<(), Fail> {
+fn reads_fail(rt: &impl Host, alloc: Global, line: &str) -> Result<(), Fail> {
     for at in 0..SURVEY_BYTES + 1 {
         let call = ("a.las", DeskCall::Take, at);
         let status = Status::ReadFault { at: 1 };
@@ -120,7 +121,7 @@ fn a_read_that_fails_at_any_place_leaves_every_file(rt: HostRuntime) -> Result<(
 }
 
 /// Runs a line that writes this, with a write that fails at each place.
-fn writes_fail(rt: &impl Abort, alloc: Global, line: &str, whole: &[u8]) -> Result<(), Fail> {
+fn writes_fail(rt: &impl Host, alloc: Global, line: &str, whole: &[u8]) -> Result<(), Fail> {
     for at in 0..whole.len() {
         let call = ("a.ppm", DeskCall::Give, at as u64);
         let status = Status::WriteFault { at: 2 };
@@ -139,7 +140,7 @@ fn a_write_that_fails_at_any_place_leaves_a_front(rt: HostRuntime) -> Result<(),
 }
 
 /// Runs a line that writes this, with a call that never comes: past the end, or on another name.
-fn nothing_fails(rt: &impl Abort, alloc: Global, line: &str, whole: &[u8]) -> Result<(), Fail> {
+fn nothing_fails(rt: &impl Host, alloc: Global, line: &str, whole: &[u8]) -> Result<(), Fail> {
     for call in [
         ("a.las", DeskCall::Take, SURVEY_BYTES + 1),
         ("a.ppm", DeskCall::Give, whole.len() as u64),

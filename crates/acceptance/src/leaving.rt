@@ -1,5 +1,6 @@
 use crate::desks::{File, Shelf, command, fill, holds};
 use crate::drawing::ONE_PIXEL;
+use crate::host::Host;
 use crate::parts::parts;
 use crate::plain::{ONE, gapped, patched, plain};
 use crate::same::same;
@@ -25,7 +26,7 @@ const OTHERS: [File; 5] = [
 ];
 
 /// A call on a name that is to fail, and at which place.
-type Call<'a> = (&'a str, DeskCall, u64);
+pub(crate) type Call<'a> = (&'a str, DeskCall, u64);
 
 /// The opening of each of the other files.
 const OPENINGS: [Call; 5] = [
@@ -37,7 +38,7 @@ const OPENINGS: [Call; 5] = [
 ];
 
 /// Plans calls that are to fail.
-fn plan(desk: &mut MemDesk, calls: &[Call]) -> Result<(), Fail> {
+pub(crate) fn plan(desk: &mut MemDesk, calls: &[Call]) -> Result<(), Fail> {
     for (name, call, at) in calls {
         desk.fail(name, *call, *at)?;
     }
@@ -54,7 +55,7 @@ fn desk_of(alloc: Global, files: &[File], calls: &[Call]) -> Result<MemDesk, Fai
 }
 
 /// A command has to have ended so, and no session to have run.
-fn refused(rt: &impl Abort, ended: &Ended, line: &str, status: Status) {
+pub(crate) fn refused(rt: &impl Abort, ended: &Ended, line: &str, status: Status) {
     same(rt, &ended.status, &status, line);
     let told = [ended.told.sessions.len(), ended.told.history.len()];
     same(rt, &told, &[0, 0], line);
@@ -63,7 +64,7 @@ fn refused(rt: &impl Abort, ended: &Ended, line: &str, status: Status) {
 /// Runs a line over a desk with these files and the others, on which these calls are to fail: it
 /// has to end so and to leave all of them.
 fn leaves_all(
-    rt: &impl Abort,
+    rt: &impl Host,
     alloc: Global,
     line: &str,
     files: &[File],
@@ -71,7 +72,7 @@ fn leaves_all(
     status: Status,
 ) -> Result<(), Fail> {
     let mut desk = desk_of(alloc, files, calls)?;
-    let ended = command(alloc, &mut desk, line)?;
+    let ended = command(rt, alloc, &mut desk, line)?;
     refused(rt, &ended, line, status);
     holds(rt, &desk, &OTHERS, line);
     holds(rt, &desk, files, line);
@@ -81,7 +82,7 @@ fn leaves_all(
 /// Runs each command over this survey, which it has to refuse so and leave every file: also where
 /// no other file can be opened, since the refusal comes before.
 pub(crate) fn refuses(
-    rt: &impl Abort,
+    rt: &impl Host,
     alloc: Global,
     survey: &[u8],
     fault: SurveyFault,
@@ -105,7 +106,7 @@ fn a_survey_that_is_not_there_leaves_every_file(rt: HostRuntime) -> Result<(), F
 }
 
 /// Runs each command over a survey whose reading fails at this place.
-fn read_fails(rt: &impl Abort, alloc: Global, survey: &[u8], at: u64) -> Result<(), Fail> {
+fn read_fails(rt: &impl Host, alloc: Global, survey: &[u8], at: u64) -> Result<(), Fail> {
     for line in COMMANDS {
         let calls: [Call; 3] = [
             ("a.las", DeskCall::Take, at),
@@ -128,7 +129,7 @@ fn a_survey_whose_reading_fails_leaves_every_file(rt: HostRuntime) -> Result<(),
 
 /// Runs each command over a survey with this byte at this place, which has this fault.
 fn refuses_patched(
-    rt: &impl Abort,
+    rt: &impl Host,
     alloc: Global,
     survey: &[u8],
     at: usize,
@@ -140,7 +141,7 @@ fn refuses_patched(
 }
 
 /// Each fault that one byte of the header makes.
-fn refuses_headers(rt: &impl Abort, alloc: Global, survey: &[u8]) -> Result<(), Fail> {
+fn refuses_headers(rt: &impl Host, alloc: Global, survey: &[u8]) -> Result<(), Fail> {
     for (at, byte, fault) in [
         (0, b'l', HeaderFault::Signature),
         (24, 2, HeaderFault::Version { major: 2, minor: 4 }),
@@ -172,7 +173,7 @@ fn a_faulty_header_leaves_every_file(rt: HostRuntime) -> Result<(), Fail> {
 
 /// Runs each command over the front of these bytes, which has this fault.
 fn refuses_front(
-    rt: &impl Abort,
+    rt: &impl Host,
     alloc: Global,
     bytes: &[u8],
     length: usize,
@@ -183,7 +184,7 @@ fn refuses_front(
 }
 
 /// A survey of one point that is cut: within the header, and within the points.
-fn refuses_cut(rt: &impl Abort, alloc: Global, survey: &[u8]) -> Result<(), Fail> {
+fn refuses_cut(rt: &impl Host, alloc: Global, survey: &[u8]) -> Result<(), Fail> {
     let header = SurveyFault::Header(HeaderFault::TooShort { have: 374 });
     refuses_front(rt, alloc, survey, 374, header)?;
     let points = SurveyFault::Points {
@@ -219,7 +220,7 @@ fn holds_but(rt: &impl Abort, desk: &MemDesk, survey: &[u8], out: &[u8]) {
 /// Serves over a whole survey with openings that fail: the word at this place has to be named, and
 /// the output to have these bytes; all others stay.
 fn opening_fails(
-    rt: &impl Abort,
+    rt: &impl Host,
     alloc: Global,
     survey: &[u8],
     calls: &[Call],
@@ -227,7 +228,7 @@ fn opening_fails(
     out: &[u8],
 ) -> Result<(), Fail> {
     let mut desk = desk_of(alloc, &[("a.las", survey)], calls)?;
-    let ended = command(alloc, &mut desk, SERVE)?;
+    let ended = command(rt, alloc, &mut desk, SERVE)?;
     refused(rt, &ended, SERVE, Status::OpenFault { at });
     holds_but(rt, &desk, survey, out);
     Ok(())
@@ -235,7 +236,7 @@ fn opening_fails(
 
 /// Serves with one, two and three openings that fail: IN, OUT and JOURNAL are opened in this order,
 /// and the first that fails is named.
-fn openings_fail(rt: &impl Abort, alloc: Global, survey: &[u8]) -> Result<(), Fail> {
+fn openings_fail(rt: &impl Host, alloc: Global, survey: &[u8]) -> Result<(), Fail> {
     let input: Call = ("i", DeskCall::OpenIn, 0);
     let out: Call = ("o", DeskCall::OpenOut, 0);
     let journal: Call = ("j", DeskCall::OpenOut, 0);

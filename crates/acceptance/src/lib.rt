@@ -17,13 +17,21 @@ mod dripping;
 #[cfg(test)]
 mod failing;
 #[cfg(test)]
+mod full;
+#[cfg(test)]
+mod host;
+#[cfg(test)]
 mod leaving;
 #[cfg(test)]
 mod older;
 #[cfg(test)]
+mod pairs;
+#[cfg(test)]
 mod parts;
 #[cfg(test)]
 mod plain;
+#[cfg(test)]
+mod racing;
 #[cfg(test)]
 mod refusals;
 #[cfg(test)]
@@ -31,6 +39,12 @@ mod same;
 #[cfg(test)]
 mod serving;
 #[cfg(test)]
+mod sixteen;
+#[cfg(test)]
 mod telling;
 #[cfg(test)]
 mod views;
+#[cfg(test)]
+mod waiting;
+#[cfg(test)]
+mod worlds;

@@ -1,4 +1,5 @@
 use crate::drawing::{CLASS_2, ONE_PIXEL, draws};
+use crate::host::Host;
 use crate::leaving::refuses;
 use crate::plain::{Record, append_all, append_records, patched};
 use crate::same::same;
@@ -7,7 +8,6 @@ use crate::telling::tells;
 use las_survey::{HeaderFault, SurveyFault};
 use sessions::Reason;
 use std::alloc::Global;
-use std::process::Abort;
 use std::test::Fail;
 use view_base::{Bytes, OutOfMemory};
 use view_commands::Status;
@@ -55,7 +55,7 @@ fn append_old_header(bytes: &mut Bytes, minor: u8, records: u64) -> Result<(), O
 
 /// Draws an older survey of so many bytes, which has to show class 2.
 fn shows_class_2(
-    rt: &impl Abort,
+    rt: &impl Host,
     alloc: Global,
     minor: u8,
     records: &[Record],
@@ -82,7 +82,7 @@ fn info_tells_of_an_older_survey(rt: HostRuntime) -> Result<(), Fail> {
 /// Serves a view, an edit and a save over an older survey of so many bytes, which has to give these
 /// replies' heads around the picture in class 2, and the survey with class 9 at this place.
 fn saves_class_9(
-    rt: &impl Abort,
+    rt: &impl Host,
     alloc: Global,
     survey: &[u8],
     at: usize,
@@ -110,7 +110,7 @@ fn older_surveys_are_saved_with_another_class_alone(rt: HostRuntime) -> Result<(
 
 /// A survey with this byte at this place has to be refused for this fault of its header.
 fn refuses_at(
-    rt: &impl Abort,
+    rt: &impl Host,
     alloc: Global,
     survey: &[u8],
     at: usize,
@@ -122,7 +122,7 @@ fn refuses_at(
 }
 
 /// The faults of a LAS 1.2 header, which has 227 bytes or more.
-fn refuses_headers(rt: &impl Abort, alloc: Global, survey: &[u8]) -> Result<(), Fail> {
+fn refuses_headers(rt: &impl Host, alloc: Global, survey: &[u8]) -> Result<(), Fail> {
     let size = HeaderFault::HeaderSize { size: 226 };
     refuses_at(rt, alloc, survey, 94, 226, size)?;
     let version = HeaderFault::Version { major: 1, minor: 1 };
@@ -132,7 +132,7 @@ fn refuses_headers(rt: &impl Abort, alloc: Global, survey: &[u8]) -> Result<(), 
 }
 
 /// A LAS 1.3 header of 235 bytes that is cut to 234.
-fn refuses_cut(rt: &impl Abort, alloc: Global, survey: &[u8]) -> Result<(), Fail> {
+fn refuses_cut(rt: &impl Host, alloc: Global, survey: &[u8]) -> Result<(), Fail> {
     let fault = HeaderFault::TooShort { have: 234 };
     let cut = survey.get(..234).unwrap_or(&[]);
     refuses(rt, alloc, cut, SurveyFault::Header(fault))

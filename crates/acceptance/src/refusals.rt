@@ -1,4 +1,5 @@
 use crate::desks::{Shelf, command, fill};
+use crate::host::Host;
 use crate::plain::{ONE, plain};
 use crate::same::same;
 use int_camera::CameraLimit;
@@ -19,7 +20,7 @@ fn has_ended(rt: &impl Abort, desk: &MemDesk, line: &str, got: Status, status: S
 
 /// Runs a line over a desk with this survey, the survey without its last byte and an empty file.
 fn answers(
-    rt: &impl Abort,
+    rt: &impl Host,
     alloc: Global,
     survey: &[u8],
     line: &str,
@@ -34,13 +35,13 @@ fn answers(
         ("empty.las", [].as_slice()),
     ];
     fill(alloc, &mut desk, &files)?;
-    let got = command(alloc, &mut desk, line)?.status;
+    let got = command(rt, alloc, &mut desk, line)?.status;
     has_ended(rt, &desk, line, got, status, exit);
     Ok(())
 }
 
 /// Refusals of words that do not fit.
-fn refuses_words(rt: &impl Abort, alloc: Global, survey: &[u8]) -> Result<(), Fail> {
+fn refuses_words(rt: &impl Host, alloc: Global, survey: &[u8]) -> Result<(), Fail> {
     for (line, at) in [
         ("", 0),
         ("draw a.las", 2),
@@ -53,6 +54,17 @@ fn refuses_words(rt: &impl Abort, alloc: Global, survey: &[u8]) -> Result<(), Fa
         ("serve a.las 1 j i", 5),
         ("serve a.las 1 a.las i o", 3),
         ("serve a.las 1 j i i", 5),
+        ("serve a.las 1 j i1 o1 i2", 7),
+        ("serve a.las 1 j i1 o1 i1 o2", 6),
+        ("serve a.las 1 j i1 o1 i2 o1", 7),
+        ("serve a.las 1 j i1 o1 j o2", 6),
+        ("serve a.las 1 j - - - o2", 6),
+        ("serve a.las 1 j - - i2 -", 7),
+        (
+            "serve a.las 1 j 1 2 3 4 5 6 7 8 9 10 11 12 13 14 15 16 \
+             17 18 19 20 21 22 23 24 25 26 27 28 29 30 31 32 33 34",
+            36,
+        ),
         (
             "draw a.las a.las 1 ortho 1 1 0 0 0 1 0 0 0 1 0 0 0 1 1 1 0 10 class all show",
             2,
@@ -69,7 +81,7 @@ fn refuses_words(rt: &impl Abort, alloc: Global, survey: &[u8]) -> Result<(), Fa
 
 /// Refusals of cameras out of range before those of colours that a format has not, and of words
 /// that fit and ask for what is not built.
-fn refuses_views(rt: &impl Abort, alloc: Global, survey: &[u8]) -> Result<(), Fail> {
+fn refuses_views(rt: &impl Host, alloc: Global, survey: &[u8]) -> Result<(), Fail> {
     let wide = CameraLimit {
         place: 1,
         value: 4097,
@@ -84,7 +96,6 @@ fn refuses_views(rt: &impl Abort, alloc: Global, survey: &[u8]) -> Result<(), Fa
     };
     for (line, status, exit) in [
         ("trial 5 100 2 t", Status::NotYet, 12),
-        ("serve a.las 1 j i o k p", Status::NotYet, 12),
         (
             "draw a.las a.ppm 1 ortho 1 1 0 0 0 1 0 0 0 1 0 0 0 1 1 1 0 10 rgb16 all show",
             Status::NoColour { format: 0 },
@@ -112,7 +123,7 @@ fn refuses_views(rt: &impl Abort, alloc: Global, survey: &[u8]) -> Result<(), Fa
 }
 
 /// Refusals of surveys, and a line that is answered.
-fn refuses_surveys(rt: &impl Abort, alloc: Global, survey: &[u8]) -> Result<(), Fail> {
+fn refuses_surveys(rt: &impl Host, alloc: Global, survey: &[u8]) -> Result<(), Fail> {
     let empty = SurveyFault::Header(HeaderFault::TooShort { have: 0 });
     let short = SurveyFault::Points {
         need: 395,
@@ -120,6 +131,11 @@ fn refuses_surveys(rt: &impl Abort, alloc: Global, survey: &[u8]) -> Result<(), 
     };
     for (line, status, exit) in [
         ("info b.las a.txt", Status::OpenFault { at: 1 }, 5),
+        (
+            "serve a.las 1 j empty.las o k p",
+            Status::OpenFault { at: 6 },
+            5,
+        ),
         (
             "draw b.las a.ppm 1 ortho 1 1 0 0 0 1 0 0 0 1 0 0 0 1 1 1 0 10 class all show",
             Status::OpenFault { at: 1 },

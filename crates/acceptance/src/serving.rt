@@ -1,13 +1,14 @@
 use crate::desks::{File, Shelf, command, fill, holds, leaves};
 use crate::drawing::{CLASS_2, CLASS_6};
+use crate::host::Host;
 use crate::parts::parts;
 use crate::plain::{ONE, Record, plain};
 use crate::same::same;
-use sessions::{Reason, SessionEnd};
+use sessions::{Ends, Reason, SessionEnd};
 use std::alloc::Global;
 use std::process::Abort;
 use std::test::Fail;
-use version_store::{Entry, History, What};
+use version_store::{History, What};
 use view_commands::{Ended, Status};
 use view_ends::StillDesk;
 
@@ -17,7 +18,7 @@ pub(crate) const SERVE: &str = "serve a.las 1 j i o";
 /// Serves a script over a survey, which has to end so with these replies and this journal, and to
 /// leave the survey and the script.
 pub(crate) fn serves(
-    rt: &impl Abort,
+    rt: &impl Host,
     alloc: Global,
     survey: &[u8],
     script: &[u8],
@@ -26,7 +27,7 @@ pub(crate) fn serves(
 ) -> Result<Ended, Fail> {
     let mut desk = StillDesk::empty(alloc);
     fill(alloc, &mut desk, &[("a.las", survey), ("i", script)])?;
-    let ended = command(alloc, &mut desk, SERVE)?;
+    let ended = command(rt, alloc, &mut desk, SERVE)?;
     holds(rt, &desk, &[("o", replies), ("j", journal)], SERVE);
     holds(rt, &desk, &[("a.las", survey), ("i", script)], SERVE);
     Ok(ended)
@@ -41,7 +42,21 @@ pub(crate) fn session_ended(
     marks: &[u64],
 ) {
     same(rt, &ended.told.sessions.len(), &1, "sessions");
-    if let Some(end) = ended.told.sessions.as_slice().first() {
+    end_is(rt, &ended.told.sessions, 0, reason, taken, marks);
+}
+
+/// Session `k`, from 0, has to have ended for this reason, with so many bytes taken and these marks.
+pub(crate) fn end_is(
+    rt: &impl Abort,
+    ends: &Ends,
+    k: usize,
+    reason: Reason,
+    taken: u64,
+    marks: &[u64],
+) {
+    let end = ends.as_slice().get(k);
+    same(rt, &end.is_some(), &true, "a session");
+    if let Some(end) = end {
         is_end(rt, end, reason, taken, marks);
     }
 }
@@ -59,28 +74,40 @@ pub(crate) fn command_ended(rt: &impl Abort, ended: &Ended, status: Status, jour
     same(rt, &ended.told.journal, &journal, "the journal");
 }
 
-/// The entries of a history have to be these, all by session 1: `E` an edit, `P` a pin, `U` a pin
-/// of the newest version given back, and `?` any other.
+/// The entries of a history have to be these, all by session 1: `E` an edit, `P` a pin, `U` the last
+/// pin given back, and `?` any other.
 pub(crate) fn entries_are(rt: &impl Abort, history: &History, letters: &[u8]) {
     same(rt, &history.len(), &letters.len(), "entries");
+    entries_by(rt, history, 1, letters);
+}
+
+/// The entries by one session have to be these, in the letters of `entries_are`.
+pub(crate) fn entries_by(rt: &impl Abort, history: &History, who: u32, letters: &[u8]) {
     let mut newest = 0u64;
-    for (entry, wanted) in history.as_slice().iter().zip(letters) {
-        same(rt, &letter(entry, newest), wanted, "an entry");
+    let mut pinned = 0u64;
+    let mut count = 0usize;
+    for entry in history.as_slice() {
         if let What::Publish(_) = entry.what {
             newest = newest.wrapping_add(1);
         }
+        if entry.who == who {
+            if let What::Pin = entry.what {
+                pinned = newest;
+            }
+            let wanted = letters.get(count).copied();
+            same(rt, &Some(letter(entry.what, pinned)), &wanted, "an entry");
+            count = count.wrapping_add(1);
+        }
     }
+    same(rt, &count, &letters.len(), "entries by one session");
 }
 
-/// The letter of one entry, where this is the newest version.
-fn letter(entry: &Entry, newest: u64) -> u8 {
-    if entry.who != 1 {
-        return b'?';
-    }
-    match entry.what {
+/// The letter of what happened, where this is the version that the session pinned last.
+fn letter(what: What, pinned: u64) -> u8 {
+    match what {
         What::Publish(_) => b'E',
         What::Pin => b'P',
-        What::Unpin(version) => { if version == newest { b'U' } else { b'?' } }
+        What::Unpin(version) => { if version == pinned { b'U' } else { b'?' } }
     }
 }
 
@@ -94,14 +121,14 @@ pub(crate) fn joined(alloc: Global, pieces: &[&[u8]]) -> Result<Vec<u8>, Fail> {
 }
 
 /// These replies' heads, and then the survey of one point at (0, 0, 5) with this class byte.
-fn then_file(alloc: Global, heads: &[u8], class: u8) -> Result<Vec<u8>, Fail> {
+pub(crate) fn then_file(alloc: Global, heads: &[u8], class: u8) -> Result<Vec<u8>, Fail> {
     let survey = plain(alloc, &[(0, 0, 5, class)])?;
     joined(alloc, &[heads, survey.as_slice()])
 }
 
 /// Serves views, edits and a save over a survey, which have to give these replies.
 fn serves_each_line(
-    rt: &impl Abort,
+    rt: &impl Host,
     alloc: Global,
     survey: &[u8],
     replies: &[u8],
@@ -138,7 +165,7 @@ fn a_session_of_views_edits_and_a_save(rt: HostRuntime) -> Result<(), Fail> {
 /// Serves a script over a plain survey of these records, which has to end well with these replies
 /// and this journal.
 pub(crate) fn replies(
-    rt: &impl Abort,
+    rt: &impl Host,
     alloc: Global,
     records: &[Record],
     script: &[u8],
@@ -222,7 +249,7 @@ fn replies_and_journals_worked_by_hand(rt: HostRuntime) -> Result<(), Fail> {
 /// Serves a script over the survey of one point, which has to give these replies, marks of 0 and
 /// these entries, and an empty journal.
 fn counts(
-    rt: &impl Abort,
+    rt: &impl Host,
     alloc: Global,
     script: &[u8],
     replies: &[u8],
@@ -263,7 +290,7 @@ fn a_count_after_a_line_that_is_too_long_and_lines_without_words(
 
 /// Serves a line of so many blanks, which has to give these replies.
 fn replies_to_blanks(
-    rt: &impl Abort,
+    rt: &impl Host,
     alloc: Global,
     length: usize,
     wanted: &[u8],
@@ -281,7 +308,7 @@ fn a_line_has_at_most_4096_bytes(rt: HostRuntime) -> Result<(), Fail> {
 
 /// Serves so many empty lines, which have to give no reply, and to end so.
 fn ends_after(
-    rt: &impl Abort,
+    rt: &impl Host,
     alloc: Global,
     length: usize,
     status: Status,
@@ -314,7 +341,7 @@ fn a_journal_makes_the_same_edits_again(rt: HostRuntime) -> Result<(), Fail> {
 }
 
 /// Serves a script of canonical edits over a survey, which has to be the journal.
-fn journals(rt: &impl Abort, alloc: Global, survey: &[u8], script: &[u8]) -> Result<(), Fail> {
+fn journals(rt: &impl Host, alloc: Global, survey: &[u8], script: &[u8]) -> Result<(), Fail> {
     let before: [File; 2] = [("a.las", survey), ("i", script)];
     let after: [File; 1] = [("j", script)];
     leaves::<StillDesk>(rt, alloc, SERVE, &before, Status::Done, &after)

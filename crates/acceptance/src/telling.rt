@@ -1,4 +1,5 @@
 use crate::desks::{File, leaves};
+use crate::host::Host;
 use crate::parts::parts;
 use crate::plain::{gapped, words};
 use crate::same::same;
@@ -9,12 +10,7 @@ use view_commands::{Status, info};
 use view_ends::{MemDesk, StillDesk};
 
 /// An `info` of these bytes has to give this text, over either desk, and to leave the survey.
-pub(crate) fn tells(
-    rt: &impl Abort,
-    alloc: Global,
-    survey: &[u8],
-    text: &[u8],
-) -> Result<(), Fail> {
+pub(crate) fn tells(rt: &impl Host, alloc: Global, survey: &[u8], text: &[u8]) -> Result<(), Fail> {
     let before: [File; 1] = [("a.las", survey)];
     let after: [File; 2] = [("a.txt", text), ("a.las", survey)];
     let line = "info a.las a.txt";

@@ -1,9 +1,9 @@
 use crate::drawing::draws;
+use crate::host::Host;
 use crate::plain::{append_all, plain_of};
 use crate::serving::{command_ended, entries_are, joined, serves, session_ended};
 use sessions::Reason;
 use std::alloc::Global;
-use std::process::Abort;
 use std::test::Fail;
 use view_base::{Bytes, OutOfMemory};
 use view_commands::Status;
@@ -76,7 +76,7 @@ const SHOWN: [&[u8]; 6] = [
 ];
 
 /// Serves the views and counts, which have to give these replies.
-fn serves_views(rt: &impl Abort, alloc: Global, replies: &[u8]) -> Result<(), Fail> {
+fn serves_views(rt: &impl Host, alloc: Global, replies: &[u8]) -> Result<(), Fail> {
     let survey = coloured(alloc)?;
     let ended = serves(rt, alloc, survey.as_slice(), VIEWS, replies, b"")?;
     command_ended(rt, &ended, Status::Done, Reason::Finished);
