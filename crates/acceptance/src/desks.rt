@@ -6,7 +6,7 @@ use std::process::Abort;
 use std::test::Fail;
 use view_base::{Bytes, OutOfMemory};
 use view_commands::{Ended, Status, run};
-use view_ends::{Desk, MemDesk, NoBeside, StillDesk};
+use view_ends::{Beside, Desk, MemDesk, NoBeside, StillDesk};
 
 /// A file: its name and its bytes.
 pub(crate) type File<'a> = (&'a str, &'a [u8]);
@@ -74,7 +74,18 @@ pub(crate) fn command(
     desk: &mut impl Desk,
     line: &str,
 ) -> Result<Ended, Fail> {
-    Ok(run(alloc, rt, &words(alloc, line)?, desk, &NoBeside))
+    command_beside(rt, alloc, desk, line, &NoBeside)
+}
+
+/// Runs a line of the command line, of whose workers somebody is told.
+pub(crate) fn command_beside(
+    rt: &impl Host,
+    alloc: Global,
+    desk: &mut impl Desk,
+    line: &str,
+    beside: &impl Beside,
+) -> Result<Ended, Fail> {
+    Ok(run(alloc, rt, &words(alloc, line)?, desk, beside))
 }
 
 /// Runs a line of the command line, which has to end so.

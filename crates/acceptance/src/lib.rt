@@ -5,6 +5,8 @@
 #[cfg(test)]
 mod ample;
 #[cfg(test)]
+mod arriving;
+#[cfg(test)]
 mod breaking;
 #[cfg(test)]
 mod desks;

@@ -23,9 +23,9 @@ const EDIT: &[u8] = b"edit 0 0 0 9 9 9 all 6\n";
 const EDITED: &[u8] = b"EDITED 1 1\n";
 
 /// A view, and its reply while no edit was published.
-const VIEW: &[u8] = b"view ortho 1 1 0 0 0 1 0 0 0 1 0 0 0 1 1 1 0 10 class all show\n";
+pub(crate) const VIEW: &[u8] = b"view ortho 1 1 0 0 0 1 0 0 0 1 0 0 0 1 1 1 0 10 class all show\n";
 
-const VIEWED: &[u8] = b"PICTURE 0 14\nP6\n1 1\n255\n\xC6\x86\xFA";
+pub(crate) const VIEWED: &[u8] = b"PICTURE 0 14\nP6\n1 1\n255\n\xC6\x86\xFA";
 
 /// What the outputs and the journal hold before a command.
 const BEFORE: &[u8] = b"as it was";

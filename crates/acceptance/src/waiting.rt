@@ -20,10 +20,10 @@ const TURNS: u32 = 100_000_000;
 /// A line of either session.
 const LINE: &[u8] = b"count all show\n";
 
-/// Whether a count is above 0 before it was looked at very often.
-fn rises(count: &AtomicU64) -> bool {
+/// Whether a count passes this number before it was looked at very often.
+pub(crate) fn passes(count: &AtomicU64, number: u64) -> bool {
     for _ in 0..TURNS {
-        if count.load(Ordering::SeqCst) > 0 {
+        if count.load(Ordering::SeqCst) > number {
             return true;
         }
         spin_loop();
@@ -50,7 +50,7 @@ impl<'a> Source for Waiting<'a> {
 
     fn take(&mut self, buf: &mut [u8]) -> Result<usize, Failed> {
         let rest = (LINE.len() as u64).saturating_sub(self.inner.taken());
-        if self.waits && rest == 0 && !rises(self.answers) {
+        if self.waits && rest == 0 && !passes(self.answers, 0) {
             self.faults = self.faults.saturating_add(1);
             return Err(Failed);
         }
