@@ -5,12 +5,12 @@ use view_base::Bytes;
 
 /// The most bytes of a head line: a word of seven letters, two spaces, two numbers of twenty
 /// digits, and LF.
-pub(crate) const HEAD: usize = 50;
+pub const HEAD: usize = 50;
 
 /// Appends the head line of a reply: a word, the version that answers, and a number. It fits in
 /// the room, so it takes no memory.
 #[tactic(auto, using(view_base::proofs::Decimals::length_decimal))]
-pub(crate) fn append_head(out: &mut Bytes, word: &[u8], version: u64, number: u64)
+pub fn append_head(out: &mut Bytes, word: &[u8], version: u64, number: u64)
     requires word { length word.now ≤ 7 }
     requires room { HEAD ≤ out.old.spare }
     ensures { out.new.items ≡ out.old.items ++ head word.now version number }

@@ -2,16 +2,25 @@
 //! that it makes in the history of the versions.
 #![tactic(auto)]
 
+mod answering;
 mod counting;
 mod drawing;
 mod end;
 mod heads;
+mod hearing;
+mod marking;
+mod pending;
+mod replies;
 mod serving;
+#[cfg(test)]
+mod tests;
 mod world;
 
 pub use counting::count_passing;
 pub use drawing::{Scene, picture};
 pub use end::{Ends, Marks, Reason, SessionEnd};
+pub use heads::{HEAD, append_head};
+pub use replies::{append_count, append_picture, give_file};
 pub use serving::serve_session;
 pub use version_store::{Entry, History, What};
 pub use world::World;
