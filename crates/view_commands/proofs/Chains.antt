@@ -1,5 +1,5 @@
 -- One session more, of those that are shut or finished in order.
-use Rattle.std.proofs.Common.{◌≡◌, ℕ, ◌+◌, List, [], ◌∷◌, ◌++◌, Option, map, refl, sym, ◌∙◌, ap, subst, append_assoc}
+use Rattle.std.proofs.Common.{◌≡◌, ℕ, suc, ◌+◌, ◌≤◌, List, [], ◌∷◌, ◌++◌, Option, length, map, refl, sym, ◌∙◌, ap, subst, arith, append_assoc}
 use Rattle.std.specs.Prelude.{Result}
 use Rattle.atomic_table.specs.Seated.{TableId}
 use Rattle.sessions.specs.Listening.{reason_of}
@@ -80,3 +80,24 @@ pub unread-others : (old new : Said) (ws : List (List ℕ)) (k : ℕ) (seat : Se
 unread-others old new ws k seat seats all is known each =
     each-map (IsUnread old ws) (IsUnread new ws) (k + 1) seats (λ j one unread. record { untaken = unread.untaken; faultless = unread.faultless; known = known (input ws j) unread.known })
     (each-others (IsUnread old ws) k seat seats all is each)
+
+-- what was known before sessions were finished is known after it
+pub all-known : (ws : List (List ℕ)) (k : ℕ) (seats : List Seated) (kept : List Reason) (old new : Said) → FinishesAll ws k seats kept old new → NoneForgotten (IsKnown old) (IsKnown new)
+all-known ws k [] [] old new is other known = subst (λ (said : Said). IsKnown said other) (sym is) known
+all-known ws k [] (one ∷ kept) old new is other known = absurd is
+all-known ws k (seat ∷ seats) [] old new is other known = absurd is
+all-known ws k (seat ∷ seats) (one ∷ kept) old new is other known =
+    all-known ws (k + 1) seats kept is.0 new is.2 other (finishes-known old is.0 (input ws k) (output ws k) seat one is.1 other known)
+
+kept_each : (ws : List (List ℕ)) (k : ℕ) (seats : List Seated) (kept : List Reason) (old new : Said) → FinishesAll ws k seats kept old new → length kept ≡ length seats
+kept_each ws k [] [] old new is = refl
+kept_each ws k [] (one ∷ kept) old new is = absurd is
+kept_each ws k (seat ∷ seats) [] old new is = absurd is
+kept_each ws k (seat ∷ seats) (one ∷ kept) old new is = ap (λ (n : ℕ). suc n) (kept_each ws (k + 1) seats kept is.0 new is.2)
+
+-- no more outcomes are noted than there are sessions
+pub few-kept : (ws : List (List ℕ)) (k most : ℕ) (seats : List Seated) (before after : List Reason) (old new : Said) → before ≡ [] → (kept : List Reason) × (after ≡ before ++ kept) × FinishesAll ws k seats kept old new → length seats ≤ most → length after ≤ most
+few-kept ws k most seats before after old new none kept few =
+    let same : length after ≡ length kept.0 = ap length (kept.1 ∙ ap (λ (l : List Reason). l ++ kept.0) none) in
+    let size = kept_each ws k seats kept.0 old new kept.2 in
+    omega (arith, same, size, few)

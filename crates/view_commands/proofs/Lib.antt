@@ -11,7 +11,6 @@ pub mod Chains
 pub mod RunFinished
 pub mod Finished
 pub mod Passes
-mod LaterStub
 pub mod SessionsRun
 pub mod Settled
 pub mod Serves

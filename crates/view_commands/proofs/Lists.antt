@@ -22,11 +22,11 @@ each-at {X} P k (y ∷ ys) zero x each is =
     subst (λ (n : ℕ). P n x) (omega arith) (subst (λ (z : X). P k z) same each.0)
 each-at {X} P k (y ∷ ys) (suc i) x each is = subst (λ (n : ℕ). P n x) (omega arith) (each-at P (k + 1) ys i x each.1 is)
 
-pub zip-append : {A B : Type 0} (R : A → B → Type 0) (xs : List A) (xs′ : List B) (ys : List A) (ys′ : List B) → AllZip R xs xs′ → AllZip R ys ys′ → AllZip R (xs ++ ys) (xs′ ++ ys′)
-zip-append R [] [] ys ys′ front back = back
-zip-append R [] (x ∷ xs) ys ys′ front back = absurd front
-zip-append R (x ∷ xs) [] ys ys′ front back = absurd front
-zip-append R (x ∷ xs) (x′ ∷ xs′) ys ys′ front back = (front.0, zip-append R xs xs′ ys ys′ front.1 back)
+pub zip_append : {A B : Type 0} (R : A → B → Type 0) (xs : List A) (xs′ : List B) (ys : List A) (ys′ : List B) → AllZip R xs xs′ → AllZip R ys ys′ → AllZip R (xs ++ ys) (xs′ ++ ys′)
+zip_append R [] [] ys ys′ front back = back
+zip_append R [] (x ∷ xs) ys ys′ front back = absurd front
+zip_append R (x ∷ xs) [] ys ys′ front back = absurd front
+zip_append R (x ∷ xs) (x′ ∷ xs′) ys ys′ front back = (front.0, zip_append R xs xs′ ys ys′ front.1 back)
 
 pub zip-length : {A B : Type 0} (R : A → B → Type 0) (xs : List A) (ys : List B) → AllZip R xs ys → length ys ≡ length xs
 zip-length R [] [] each = refl

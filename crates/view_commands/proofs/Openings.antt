@@ -2,7 +2,7 @@
 use Rattle.std.proofs.Common.{◌≡◌, ◌≢◌, ℕ, suc, ◌+◌, ◌*◌, ◌-◌, ◌^◌, ◌<◌, ◌≤◌, List, [], ◌∷◌, ◌++◌, Bool, length, refl, sym, ◌∙◌, ap, subst, arith, Option, None, false, inl, inr, length-append}
 use Rattle.std.proofs.lemmas.Bool.{cases_lt, cases_eq}
 use Rattle.std.proofs.lemmas.Bool.Decides.{nat_tests}
-use Rattle.std.specs.Prelude.{◌⊎◌, IsSome, IsTrue, Some, min}
+use Rattle.std.specs.Prelude.{◌⊎◌, IfErr, IsSome, IsTrue, OnOk, Ok, Err, Result, Some, min}
 use Rattle.atomic_table.specs.Seated.{TableId}
 use Rattle.view_base.specs.Fitting.{word_at}
 use Rattle.turn_gate.specs.Meaning.{Passed}
@@ -479,3 +479,29 @@ session-opened tells old mid new ws gate k left got taken faults failed given se
 
     fresh_pass : split_off given seen ≡ split_off k []
     fresh_pass = ap (λ (n : ℕ). split_off n seen) given_is ∙ ap (λ (h : List Entry). split_off k h) seen_is
+
+module _ {T : Type 0} (result : Result T status.Status) (tells : Bool) (old mid new : Said) (ws : List (List ℕ)) (gate : TableId) (seats : List Seated) (pairs : length ws ≡ 4 + 2 * length seats) (opened : AreOpened tells old mid ws gate seats) where
+  next_refused : (ended : status.Status) → RefusesWritten mid new (word_at ws JOURNAL) JOURNAL ended → RefusesNext mid new ws (length seats) ended
+  next_refused ended refused = next-unwritten mid new ws (length seats) JOURNAL ended (inr (refl, pairs)) refused
+
+  -- all names of the sessions were opened, and then the journal or not
+  pub journal-opened : OnOk result (OpensWritten tells mid new (word_at ws JOURNAL)) → OnOk result (OpensAll tells old new ws gate seats)
+  journal-opened journal = from result journal
+    where
+      from : (r : Result T status.Status) → OnOk r (OpensWritten tells mid new (word_at ws JOURNAL)) → OnOk r (OpensAll tells old new ws gate seats)
+      from (Ok out) one = opened-all tells old mid new ws gate seats pairs opened one
+      from (Err ended) one = one
+
+  pub journal-refused : IfErr result (λ ended. RefusesWritten mid new (word_at ws JOURNAL) JOURNAL ended) → IfErr result (λ ended. RefusesOpening tells old new ws ended)
+  journal-refused journal = from result journal
+    where
+      from : (r : Result T status.Status) → IfErr r (λ ended. RefusesWritten mid new (word_at ws JOURNAL) JOURNAL ended) → IfErr r (λ ended. RefusesOpening tells old new ws ended)
+      from (Ok out) none = none
+      from (Err ended) none = opened-refused tells old mid new ws gate seats (length seats) ended refl opened (next_refused ended none)
+
+  pub journal-unread : OnOk result (OpensWritten tells mid new (word_at ws JOURNAL)) → IfErr result (λ ended. RefusesWritten mid new (word_at ws JOURNAL) JOURNAL ended) → EachFrom (IsUnread new ws) 0 seats
+  journal-unread journal none = opened-unread tells old mid new ws gate seats (known result journal none) opened.each
+    where
+      known : (r : Result T status.Status) → OnOk r (OpensWritten tells mid new (word_at ws JOURNAL)) → IfErr r (λ ended. RefusesWritten mid new (word_at ws JOURNAL) JOURNAL ended) → NoneForgotten (IsKnown mid) (IsKnown new)
+      known (Ok out) one refused = one.rest.known
+      known (Err ended) one refused = (next_refused ended refused).known

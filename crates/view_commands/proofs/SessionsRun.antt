@@ -8,7 +8,7 @@ use Rattle.atomic_table.specs.Seated.{TableId}
 use Rattle.sessions.specs.declared.end.Reason as reason
 use Rattle.sessions.specs.declared.end.SessionEnd.{SessionEnd}
 use Rattle.sessions.specs.Worlds.{HasGivenBack}
-use Rattle.view_commands.proofs.LaterStub.{Served-later}
+use Rattle.sessions.proofs.Later.{Served-later}
 use Rattle.turn_gate.specs.Meaning.{Passed, made_by}
 use Rattle.version_store.specs.declared.history.Entry.{Entry}
 use Rattle.version_store.specs.Histories.{journal, held, IsGivenBack, IsLegal}

@@ -96,7 +96,10 @@ fn open_sessions<D: Desk>(
     ensures fits { length seats.new.items ≤ count }
 {
     for k in 0..count {
-        let seat = open_session(alloc, desk, words, k, shared, root)?;
+        let seat = match open_session(alloc, desk, words, k, shared, root) {
+            Ok(seat) => seat,
+            Err(status) => return Err(status),
+        };
         seats.push(seat).unwrap();
     }
     Ok(())

@@ -13,6 +13,7 @@ use std::thread::{Threads, join_mut};
 use view_ends::{Beside, Sink, Source};
 
 /// Serves all sessions side by side, each in a thread of its own where one can be started.
+#[tactic(auto, using(crate::proofs::Lists::zip_append))]
 pub(crate) fn serve_all<R: Threads + Wait + Sync, I: Source + Send, O: Sink + Send, B: Beside>(
     alloc: Global,
     rt: &R,

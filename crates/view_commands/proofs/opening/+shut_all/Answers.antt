@@ -1,17 +1,10 @@
-use Rattle.std.proofs.Common.{rules, ◌≡◌, ◌∷◌, List, ℕ, sym, subst}
+use Rattle.std.proofs.Common.{rules, ◌≡◌, ◌∷◌}
 use Rattle.std.specs.Vec.Iter.{into_iter_items}
-use Rattle.view_ends.specs.Desk.{IsKnown, Said}
 use Rattle.view_words.specs.CommandLine.{texts}
-use Rattle.view_commands.specs.Steps.{EachFrom, IsUnread, Seated, ShutsUnread}
+use Rattle.view_commands.specs.Steps.{IsUnread}
 use Rattle.view_commands.proofs.Chains.{each-first, shuts-one, unread-others}
-use Rattle.view_commands.proofs.Openings.{unread-none, unread-then}
+use Rattle.view_commands.proofs.Openings.{unread-then}
 use Rattle.view_commands.proofs.opening.+shut_all.Goals as goal
-
-pub shut-requires : goal.shut-requires
-shut-requires g c κs within =
-    let is : into_iter_items c.args.seats ≡ c.in-Some.seat ∷ into_iter_items c.next.new.self = search rules in
-    let first = each-first (IsUnread (g.D.Desk.says c.args.desk.now) (texts c.args.words.now)) _ c.in-Some.seat (into_iter_items c.next.new.self) (into_iter_items c.args.seats) is c.requires.unread in
-    subst (λ (name : List ℕ). IsKnown (g.D.Desk.says c.args.desk.now) name) (sym c.input_name.ensures) first.known
 
 pub shut_all-requires-clause-unread : goal.shut_all-requires-clause-unread
 shut_all-requires-clause-unread g c κs within =
@@ -25,6 +18,3 @@ returns-in-Some g c =
     unread-then _ (g.D.Desk.says c.shut.new.self) _ (texts c.args.words.now)
     (shuts-one _ _ (texts c.args.words.now) _ c.input_name.result.now _ _ _ c.in-Some.seat (search rules) c.input_name.ensures c.into_parts.ensures.input first c.shut.ensures.desk)
     c.shut_all.ensures
-
-pub returns-in-None : goal.returns-in-None
-returns-in-None g c = unread-none _ _

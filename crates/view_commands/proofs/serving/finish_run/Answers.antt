@@ -1,7 +1,9 @@
-use Rattle.std.proofs.Common.{rules, ◌∙◌, ap}
+use Rattle.std.proofs.Common.{rules, ◌∙◌, List, ℕ, ap, subst, sym}
+use Rattle.view_ends.specs.Desk.{IsKnown}
 use Rattle.turn_gate.specs.Meaning.{Passed}
 use Rattle.version_store.specs.declared.history.Entry.{Entry}
 use Rattle.view_words.specs.CommandLine.{texts}
+use Rattle.view_commands.proofs.Chains.{all-known, few-kept}
 use Rattle.view_commands.proofs.RunFinished.{joined-out, joined-same, run-finished}
 use Rattle.view_commands.proofs.serving.finish_run.Goals as goal
 
@@ -23,3 +25,10 @@ returns g c =
     (search rules) c.requires.outcomes.no_ends c.requires.outcomes.no_kept c.finish_all.ensures.ends c.finish_all.ensures.kept c.finish_all.ensures.joined
     c.close.ensures.own (c.into_history-history.ensures.history ∙ c.close.ensures.history) c.close.ensures.makers c.close.ensures.kept
     (search rules) c.journal_name.ensures (search rules) c.write_journal-journal.ensures.only c.status_of.ensures
+
+pub write_journal-journal-requires-clause-known : goal.write_journal-journal-requires-clause-known
+write_journal-journal-requires-clause-known g c κs within =
+    subst (λ (name : List ℕ). IsKnown (g.D.Desk.says c.finish_all.new.desk) name) (sym c.journal_name.ensures) (all-known (texts c.args.words.now) 0 _ _ _ _ c.finish_all.ensures.kept.2 _ c.requires.known)
+
+pub status_of-requires-clause-kept : goal.status_of-requires-clause-kept
+status_of-requires-clause-kept g c κs within = few-kept (texts c.args.words.now) 0 _ _ _ c.finish_all.new.outcomes.kept.items _ _ c.requires.outcomes.no_kept c.finish_all.ensures.kept (search rules)

@@ -1,12 +1,12 @@
-use Rattle.std.proofs.Common.{◌∙◌, ℕ, arith, inl, inr, subst, sym}
+use Rattle.std.proofs.Common.{◌∙◌, inl, inr, subst, sym}
 use Rattle.std.proofs.lemmas.List.{length-map}
 use Rattle.std.specs.Prelude.{string_bytes}
 use Rattle.view_words.specs.CommandLine.{texts}
 use Rattle.view_commands.specs.declared.status.Status as status
-use Rattle.view_commands.specs.Steps.{IsRoomFor, RefusesOpening}
+use Rattle.view_commands.specs.Steps.{RefusesOpening}
 use Rattle.view_commands.proofs.Begun.{finish-each, serve-each}
 use Rattle.view_commands.proofs.Openings.{refused-shut}
-use Rattle.view_commands.proofs.RunFinished.{root-ready, run-all, served-count}
+use Rattle.view_commands.proofs.RunFinished.{run-all}
 use Rattle.view_commands.proofs.serving.serve_in.Goals as goal
 
 pub serve_all-requires-clause-ready : goal.serve_all-requires-clause-ready
@@ -15,32 +15,6 @@ serve_all-requires-clause-ready g c κs within = serve-each g.D.Desk.tells (g.D.
 pub finish_run-requires-clause-seats : goal.finish_run-requires-clause-seats
 finish_run-requires-clause-seats g c κs within =
     finish-each g.D.Desk.tells (g.D.Desk.says c.args.desk.now) (g.D.Desk.says c.open_all.new.desk) (texts c.args.words.now) _ _ _ _ c.in-Ok.ensures.opened.each c.serve_all.ensures
-
-pub finish_run-requires-clause-pairs : goal.finish_run-requires-clause-pairs
-finish_run-requires-clause-pairs g c κs within =
-    let size = served-count _ c.args.count _ _ c.in-Ok.ensures.count c.serve_all.ensures in
-    let pairs = c.requires.pairs in
-    omega (arith, size, pairs)
-
-pub finish_run-requires-clause-some : goal.finish_run-requires-clause-some
-finish_run-requires-clause-some g c κs within =
-    let size = served-count _ c.args.count _ _ c.in-Ok.ensures.count c.serve_all.ensures in
-    let some = c.requires.some in
-    omega (arith, size, some)
-
-pub finish_run-requires-clause-few : goal.finish_run-requires-clause-few
-finish_run-requires-clause-few g c κs within =
-    let size = served-count _ c.args.count _ _ c.in-Ok.ensures.count c.serve_all.ensures in
-    let few = c.requires.few in
-    omega (arith, size, few)
-
-pub finish_run-requires-clause-root : goal.finish_run-requires-clause-root
-finish_run-requires-clause-root g c κs within =
-    root-ready _ c.args.count _ _ _ (served-count _ c.args.count _ _ c.in-Ok.ensures.count c.serve_all.ensures) c.requires.root c.in-Ok.ensures.root
-
-pub finish_run-requires-clause-outcomes : goal.finish_run-requires-clause-outcomes
-finish_run-requires-clause-outcomes g c κs within =
-    subst (λ (n : ℕ). IsRoomFor n c.args.room.outcomes) (sym (served-count _ c.args.count _ _ c.in-Ok.ensures.count c.serve_all.ensures)) c.requires.outcomes
 
 pub returns-in-Ok : goal.returns-in-Ok
 returns-in-Ok g c =
