@@ -147,7 +147,15 @@ fn colours_by<R: Abort + Threads + Sync>(
     assert!(rt; can_colour(survey.header().format, Colouring::Class));
     let mut out = Bytes::new(alloc);
     out.reserve(27003)?;
-    colours(rt, workers, words, survey, classes, Colouring::Class, &mut out);
+    colours(
+        rt,
+        workers,
+        words,
+        survey,
+        classes,
+        Colouring::Class,
+        &mut out,
+    );
     Ok(out)
 }
 
