@@ -1,10 +1,8 @@
 -- Colours of records, and of words one after another.
-use Rattle.std.proofs.Common.{◌≡◌, [], ◌∷◌, ◌/◌, min, ◌<◌, ◌-◌, ◌^◌, ◌%◌, ◌==◌, ◌++◌, append_assoc, All, List, length, length-append, get_or, take, ◌+◌, ◌∙◌, ℕ, Bool, false, Option, Some, None, IfSome, if◌then◌else◌, ap, sym, subst, arith, refl}
-use Rattle.std.proofs.Math.Seq.{take-append_seam}
+use Rattle.std.proofs.Common.{◌≡◌, [], ◌∷◌, ◌/◌, min, ◌<◌, ◌-◌, ◌^◌, ◌%◌, ◌==◌, ◌++◌, List, length, length-append, take, drop, replicate, take_all, ◌+◌, ◌∙◌, ℕ, Bool, false, Option, Some, None, IfSome, if◌then◌else◌, ap, subst, arith, refl}
+use Rattle.std.proofs.Math.Seq.{take-append_seam, drop-append_seam}
 use Rattle.std.proofs.lemmas.Bool.Decides.{nat_tests}
-use Rattle.std.proofs.lemmas.List.{get_or-append-add}
-use Rattle.std.proofs.lemmas.Grind.{flat_map-append}
-use Rattle.std.specs.List.{flat_map}
+use Rattle.std.proofs.lemmas.List.{append-nil, drop_all, length-replicate}
 use Rattle.std.specs.Option.{option_map}
 use Rattle.view_base.specs.declared.colour.Rgb.{Rgb}
 use Rattle.view_base.specs.declared.colour.Colouring.TheVariants.{Rgb16, Rgb8, Intensity}
@@ -46,22 +44,22 @@ pub colour-intensity : (b cs : List ℕ) (i n : ℕ) → n ≡ intensity_of b i 
 unfolding colour
 colour-intensity b cs i n is = ap grey is
 
--- what was appended is the front of a buffer
-pub appended_front : (new old front back : List ℕ) (n : ℕ) → new ≡ old ++ take n (front ++ back) → n ≡ length front → new ≡ old ++ front
-appended_front new old front back n appended size =
-    appended ∙ ap (λ (l : List ℕ). old ++ l) (ap (λ (k : ℕ). take k (front ++ back)) size ∙ take-append_seam front back)
+-- a filling of bytes 0 at a list's end
+pub tail_length : (old whole : List ℕ) (n m : ℕ) → whole ≡ old ++ replicate m 0 → n ≡ length old → length (drop n whole) ≡ m
+tail_length old whole n m is at =
+    ap (λ (k : ℕ). length (drop k whole)) at ∙ (ap (λ (l : List ℕ). length (drop (length old) l)) is ∙ (ap length (drop-append_seam old (replicate m 0)) ∙ length-replicate m 0))
 
--- one more piece's colours
-pub colours_more : (f : ℕ → List ℕ) (old new colours chunk rest all whole : List ℕ) → new ≡ old ++ colours → colours ≡ flat_map f chunk → all ≡ chunk ++ rest
-    → old ++ flat_map f all ≡ whole → new ++ flat_map f rest ≡ whole
-colours_more f old new colours chunk rest all whole appended coloured parts so_far =
-    ap (λ (l : List ℕ). l ++ flat_map f rest) (appended ∙ ap (λ (l : List ℕ). old ++ l) coloured)
-    ∙ append_assoc old (flat_map f chunk) (flat_map f rest)
-    ∙ ap (λ (l : List ℕ). old ++ l) (sym (flat_map-append f chunk rest) ∙ ap (flat_map f) (sym parts))
-    ∙ so_far
-
--- what all words of a list name, the later ones name
-pub all_rest : (count : ℕ) (chunk rest all : List ℕ) → all ≡ chunk ++ rest → All (NamesOne count) all → All (NamesOne count) rest
-all_rest count chunk rest all parts names = λ k d lt.
-    let size : length all ≡ length chunk + length rest = ap length parts ∙ length-append chunk rest in
-    subst (λ (n : ℕ). NamesOne count n) (ap (λ (l : List ℕ). get_or l (length chunk + k) d) parts ∙ get_or-append-add chunk rest k d) (names (length chunk + k) d (omega (arith, lt, size)))
+-- a list whose filling of bytes 0 was written over
+pub tail_written : (old whole colours : List ℕ) (n m : ℕ) → whole ≡ old ++ replicate m 0 → n ≡ length old → length colours ≡ m
+    → take (length whole) (take n whole ++ colours ++ drop (length colours) (drop n whole)) ≡ old ++ colours
+tail_written old whole colours n m is at size =
+    let filled : List ℕ = replicate m 0 in
+    let long : length filled ≡ m = length-replicate m 0 in
+    let front : take n whole ≡ old = ap (λ (k : ℕ). take k whole) at ∙ (ap (take (length old)) is ∙ take-append_seam old filled) in
+    let back : drop n whole ≡ filled = ap (λ (k : ℕ). drop k whole) at ∙ (ap (drop (length old)) is ∙ drop-append_seam old filled) in
+    let none : drop (length colours) (drop n whole) ≡ [] = ap (drop (length colours)) back ∙ drop_all (length colours) filled (omega (arith, size, long)) in
+    let parts : take n whole ++ colours ++ drop (length colours) (drop n whole) ≡ old ++ colours =
+    ap (λ (l : List ℕ). l ++ colours ++ drop (length colours) (drop n whole)) front
+    ∙ (ap (λ (l : List ℕ). old ++ colours ++ l) none ∙ append-nil (old ++ colours)) in
+    ap (take (length whole)) parts
+    ∙ take_all (length whole) (old ++ colours) (omega (arith, length-append old colours, length-append old filled, ap length is, size, long))

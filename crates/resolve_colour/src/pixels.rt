@@ -1,6 +1,7 @@
 ghost use Rattle.std.specs.Prelude.{◌≡◌, ◌*◌, ◌<◌, ◌≤◌, ◌++◌, All, length, true};
 ghost use Rattle.std.specs.List.{flat_map};
-ghost use Rattle.resolve_colour.specs.Names.{NamesOne};
+ghost use Rattle.std.specs.Thread.{IsSync};
+ghost use Rattle.resolve_colour.specs.Names.{IsPaintable, NamesOne};
 ghost use Rattle.view_meaning.specs.Frame.{word_colour};
 ghost use Rattle.view_meaning.specs.Picture.{can_colour};
 ghost use Rattle.view_meaning.specs.Survey.{record_count, format_of};
@@ -8,27 +9,32 @@ ghost use Rattle.view_meaning.specs.Survey.{record_count, format_of};
 use crate::paint::{ByClass, ByIntensity, ByRgb8, ByRgb16, Paint};
 use class_pages::Classes;
 use las_survey::Survey;
+use std::thread::{Threads, join_mut};
 use view_base::{Bytes, Colouring, Words};
 
 /// The word of a pixel that shows no record.
 const EMPTY: u64 = u64::MAX;
 
-/// How many pixels' colours are appended at once.
-const CHUNK: usize = 1024;
+/// From how many pixels on a picture's colours are shared among workers.
+const SHARED: usize = 4096;
 
 /// Appends the colours of words, three bytes for each: those of the record whose number is the
 /// word's lower half, under these classes, or black where the word is all ones and names none.
-/// They fit in the room, so this takes no memory.
+/// They fit in the room, so this takes no memory. So many workers, 1 to 64, write them side by side
+/// where threads can be started, and the bytes are the same for each number.
 ///
 /// The class palette is this project's own. RGB of 16 bits a channel shows by its upper byte, RGB
 /// of 8 bits by its value up to 255, and intensity by its upper byte as a grey.
-pub fn colours(
+pub fn colours<R: Threads + Sync>(
+    rt: &R,
+    workers: u32,
     words: &Words,
     survey: &Survey,
     classes: &Classes,
     colouring: Colouring,
     out: &mut Bytes,
 )
+    requires workers { (1 ≤ workers) × (workers ≤ 64) }
     requires can_colour { can_colour (format_of survey.now) colouring ≡ true }
     requires names { All (NamesOne (record_count survey.now)) words.now.items }
     requires records { length classes.now ≡ record_count survey.now }
@@ -37,27 +43,80 @@ pub fn colours(
 {
     let words = words.as_slice();
     match colouring {
-        Colouring::Class => append_colours::<ByClass>(words, survey, classes, out),
-        Colouring::Rgb16 => append_colours::<ByRgb16>(words, survey, classes, out),
-        Colouring::Rgb8 => append_colours::<ByRgb8>(words, survey, classes, out),
-        Colouring::Intensity => append_colours::<ByIntensity>(words, survey, classes, out),
+        Colouring::Class => append_colours::<R, ByClass>(rt, workers, words, survey, classes, out),
+        Colouring::Rgb16 => append_colours::<R, ByRgb16>(rt, workers, words, survey, classes, out),
+        Colouring::Rgb8 => append_colours::<R, ByRgb8>(rt, workers, words, survey, classes, out),
+        Colouring::Intensity => {
+            append_colours::<R, ByIntensity>(rt, workers, words, survey, classes, out)
+        }
     }
 }
 
 /// Appends the colours of words by one colouring.
-fn append_colours<P: Paint>(words: &[u64], survey: &Survey, classes: &Classes, out: &mut Bytes)
+fn append_colours<R: Threads + Sync, P: Paint + Sync>(
+    rt: &R,
+    workers: u32,
+    words: &[u64],
+    survey: &Survey,
+    classes: &Classes,
+    out: &mut Bytes,
+)
     requires can_colour { can_colour (format_of survey.now) P.colouring ≡ true }
     requires names { All (NamesOne (record_count survey.now)) words.now }
     requires records { length classes.now ≡ record_count survey.now }
     requires room { 3 * length words.now ≤ out.old.spare }
     ensures { out.new.items ≡ out.old.items ++ flat_map (word_colour survey.now classes.now P.colouring) words.now }
 {
-    let mut colours = [0; 3 * CHUNK];
-    for chunk in words.chunks(CHUNK) {
-        let bytes = 3 * chunk.len();
-        colour_pixels::<P>(&mut colours[..bytes], chunk, survey, classes);
-        out.append_within(&colours[..bytes]);
+    let from = out.len();
+    out.extend_by(3 * words.len(), 0);
+    let colours = out.tail_mut(from);
+    colour_side_by_side::<R, P>(rt, workers, words, survey, classes, colours);
+}
+
+/// Writes the three bytes of each pixel with one of these words by workers side by side, each with
+/// its share of the pixels, or by one where they are few.
+fn colour_side_by_side<R: Threads + Sync, P: Paint + Sync>(
+    rt: &R,
+    workers: u32,
+    words: &[u64],
+    survey: &Survey,
+    classes: &Classes,
+    colours: &mut [u8],
+)
+    requires can_colour { can_colour (format_of survey.now) P.colouring ≡ true }
+    requires names { All (NamesOne (record_count survey.now)) words.now }
+    requires records { length classes.now ≡ record_count survey.now }
+    requires size { length colours.old ≡ 3 * length words.now }
+    ensures { colours.new ≡ flat_map (word_colour survey.now classes.now P.colouring) words.now }
+{
+    if workers < 2 || words.len() < SHARED {
+        colour_pixels::<P>(colours, words, survey, classes);
+        return;
     }
+    let front_workers = workers / 2;
+    let back_workers = workers - front_workers;
+    let half = front_share(words.len(), workers);
+    let (front_words, back_words) = words.split_at(half);
+    let (front, back) = colours.split_at_mut(3 * half);
+    join_mut(
+        rt,
+        &mut ||
+            requires { IsSync R.row × IsSync P.row × IsPaintable survey.now classes.now P.colouring front_words.now front.now }
+            ensures { front.exit.now ≡ flat_map (word_colour survey.entry.now classes.entry.now P.colouring) front_words.entry.now }
+        { colour_side_by_side::<R, P>(rt, front_workers, front_words, survey, classes, front) },
+        &mut ||
+            requires { IsSync R.row × IsSync P.row × IsPaintable survey.now classes.now P.colouring back_words.now back.now }
+            ensures { back.exit.now ≡ flat_map (word_colour survey.entry.now classes.entry.now P.colouring) back_words.entry.now }
+        { colour_side_by_side::<R, P>(rt, back_workers, back_words, survey, classes, back) },
+    );
+}
+
+/// How many of so many pixels the first half of the workers paints.
+fn front_share(pixels: usize, workers: u32) -> usize
+    requires workers { 1 ≤ workers }
+    ensures { result ≤ pixels }
+{
+    pixels / workers as usize * (workers / 2) as usize
 }
 
 /// Writes the three bytes of each pixel with one of these words.

@@ -1,4 +1,5 @@
-ghost use Rattle.std.specs.Prelude.{◌≡◌, length};
+ghost use Rattle.std.specs.Prelude.{◌≡◌, ◌≤◌, [], All, length};
+ghost use Rattle.resolve_colour.specs.Names.{NamesOne};
 ghost use Rattle.view_meaning.specs.Survey.{record_count};
 
 use crate::{can_colour, colours};
@@ -7,6 +8,7 @@ use las_survey::{Survey, load};
 use std::alloc::Global;
 use std::process::Abort;
 use std::test::Fail;
+use std::thread::Threads;
 use view_base::{Bytes, Colouring, OutOfMemory, Words};
 use view_ends::StillSource;
 
@@ -50,8 +52,8 @@ fn survey(
 
 /// The colours by one colouring of a pixel without a record and of one with record 0 at depth 5
 /// have to be black and these.
-fn shows(
-    rt: &impl Abort,
+fn shows<R: Abort + Threads + Sync>(
+    rt: &R,
     alloc: Global,
     survey: &Survey,
     classes: &Classes,
@@ -64,14 +66,18 @@ fn shows(
     words.append(&[u64::MAX, 5 << 32])?;
     let mut out = Bytes::new(alloc);
     out.reserve(6)?;
-    colours(&words, survey, classes, colouring, &mut out);
+    colours(rt, 1, &words, survey, classes, colouring, &mut out);
     let [red, green, blue] = wanted;
     assert_eq!(rt; out.as_slice(), [0, 0, 0, red, green, blue].as_slice());
     Ok(())
 }
 
 /// The record has to show by each colouring.
-fn shows_by_each(rt: &impl Abort, alloc: Global, survey: &Survey) -> Result<(), OutOfMemory> {
+fn shows_by_each<R: Abort + Threads + Sync>(
+    rt: &R,
+    alloc: Global,
+    survey: &Survey,
+) -> Result<(), OutOfMemory> {
     let classes = base(alloc, survey)?;
     for (colouring, wanted) in [
         (Colouring::Class, [0xC6, 0x86, 0xFA]),
@@ -110,5 +116,72 @@ fn formats_5_and_8_have_rgb_after_the_time(rt: HostRuntime) -> Result<(), Fail> 
         &[9; 2],
     )?;
     shows_by_each(&rt, rt.alloc(), &eighth)?;
+    Ok(())
+}
+
+/// A row of 4500 pixels without a record and 4501 with record 0.
+fn fill_row(words: &mut Words)
+    requires none { words.old.items ≡ [] }
+    requires room { 9001 ≤ words.old.spare }
+    ensures names { All (NamesOne 1) words.new.items }
+    ensures size { length words.new.items ≡ 9001 }
+{
+    words.extend_by(4500, u64::MAX);
+    words.extend_by(4501, 5 << 32);
+}
+
+/// The class colours of words by so many workers.
+fn colours_by<R: Abort + Threads + Sync>(
+    rt: &R,
+    alloc: Global,
+    workers: u32,
+    words: &Words,
+    survey: &Survey,
+    classes: &Classes,
+) -> Result<Bytes, OutOfMemory>
+    requires workers { (1 ≤ workers) × (workers ≤ 64) }
+    requires names { All (NamesOne 1) words.now.items }
+    requires size { length words.now.items ≡ 9001 }
+{
+    assert!(rt; survey.records() == 1 && classes.len() == 1);
+    assert!(rt; can_colour(survey.header().format, Colouring::Class));
+    let mut out = Bytes::new(alloc);
+    out.reserve(27003)?;
+    colours(
+        rt,
+        workers,
+        words,
+        survey,
+        classes,
+        Colouring::Class,
+        &mut out,
+    );
+    Ok(out)
+}
+
+/// The row's colours have to be the same by each number of workers.
+fn same_by_all<R: Abort + Threads + Sync>(
+    rt: &R,
+    alloc: Global,
+    survey: &Survey,
+    classes: &Classes,
+) -> Result<(), OutOfMemory> {
+    let mut words = Words::new(alloc);
+    words.reserve(9001)?;
+    fill_row(&mut words);
+    let alone = colours_by(rt, alloc, 1, &words, survey, classes)?;
+    assert!(rt; alone.len() == 27003);
+    for workers in [2, 3, 64] {
+        let shared = colours_by(rt, alloc, workers, &words, survey, classes)?;
+        assert!(rt; shared.as_slice() == alone.as_slice());
+    }
+    Ok(())
+}
+
+#[test]
+fn a_row_is_the_same_by_each_number_of_workers(rt: HostRuntime) -> Result<(), Fail> {
+    let survey = survey(rt.alloc(), 2, 26, &[0, 0x82, 0, 0, 0, 0], &[])?;
+    let classes = base(rt.alloc(), &survey)?;
+    same_by_all(&rt, rt.alloc(), &survey, &classes)?;
     Ok(())
 }

@@ -65,6 +65,14 @@ pub fn picture<R: Threads + Sync, B: Beside>(
     )?;
     out.reserve(HEADER + 3 * words.len())?;
     ppm_header(view.camera.width(), view.camera.height(), out);
-    colours(&words, survey, classes, view.colouring, out);
+    colours(
+        rt,
+        scene.workers,
+        &words,
+        survey,
+        classes,
+        view.colouring,
+        out,
+    );
     Ok(())
 }

@@ -1,10 +1,11 @@
-use Rattle.std.proofs.Common.{◌≡◌, ◌<◌, ◌≤◌, ◌-◌, ◌^◌, ◌∙◌, ◌++◌, List, ℕ, ap, subst, arith, append_assoc}
+use Rattle.std.proofs.Common.{◌≡◌, ◌<◌, ◌≤◌, ◌-◌, ◌^◌, ◌∙◌, ◌++◌, All, List, ℕ, ap, subst, arith, append_assoc, rules}
 use Rattle.std.specs.List.{flat_map}
 use Rattle.std.specs.Arc.{arc_value}
 use Rattle.view_meaning.specs.Survey.{record_count}
 use Rattle.view_meaning.specs.Picture.{View, picture, ppm_header}
 use Rattle.view_meaning.specs.Frame.{IsFrame, word_colour}
 use Rattle.view_meaning.proofs.Colours.{picture-words}
+use Rattle.resolve_colour.specs.Names.{NamesOne}
 use Rattle.sessions.proofs.Lengths.{length-picture}
 use Rattle.sessions.proofs.Shown.{appended-shows_nearest}
 use Rattle.sessions.proofs.Naming.{frame_names_records}
@@ -26,7 +27,9 @@ picture-appended b same cs inside view words old room headed new width height is
 pub colours-requires-clause-names : goal.colours-requires-clause-names
 colours-requires-clause-names g c =
     let wide : 1 ≤ c.args.view.now.camera.width = subst (λ (v : View). 1 ≤ v.camera.width) c.view.view_is (omega (arith, c.width.ensures)) in
-    frame_names_records c.deref-survey.result.now c.args.classes.now c.args.view.now c.in_ok-words.words.items wide c.in_ok-words.ensures.words c.in_ok-words.ensures.nearest
+    let names : All (NamesOne (record_count c.deref-survey.result.now)) c.in_ok-words.words.items =
+    frame_names_records c.deref-survey.result.now c.args.classes.now c.args.view.now c.in_ok-words.words.items wide c.in_ok-words.ensures.words c.in_ok-words.ensures.nearest in
+    search rules
 
 pub returns-clause-drawn : goal.returns-clause-drawn
 returns-clause-drawn g c =
