@@ -6,7 +6,8 @@ use Rattle.view_words.specs.declared.row.Row.TheVariants.{Draw, Info}
 use Rattle.view_words.proofs.Refusals.{row_in-line, badword-row, badword-unbegun}
 use Rattle.view_ends.specs.Desk.{Said, Untouched}
 use Rattle.view_commands.specs.Calls.{AnswersDraw, AnswersInfo}
-use Rattle.view_commands.specs.Run.{EndsAtOnce, Runs, RunsLine, RunsRow}
+use Rattle.view_commands.specs.Run.{EndsAtOnce, Runs, RunsLine}
+use Rattle.view_commands.specs.Steps.{RunsRow}
 use Rattle.view_commands.specs.Serve.{IsNothing}
 use Rattle.view_commands.specs.Texts.{DrawsView, MakesText, view_in, refuses_none}
 use Rattle.view_base.specs.Fitting.{word_at}

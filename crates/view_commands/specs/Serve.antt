@@ -67,8 +67,7 @@ pub record Empties (tells : Bool) (old new : Said) (ws : List (List ℕ)) (n : �
 
 -- why no more than the inputs and outputs of the first n sessions were opened, and that no other count rose
 abbrev pub NotOpened : Said → Said → List (List ℕ) → ℕ → status.Status → Type 0
-NotOpened old new ws n (OpenFault at) =
-    ((at ≡ INPUT + 2 * n) × HasPair ws n × Rose (old.unopened (word_at ws at)) (new.unopened (word_at ws at)) × Untouched (record old { file = new.file; unopened = new.unopened; taken = new.taken }) new)
+NotOpened old new ws n (OpenFault at) = ((at ≡ INPUT + 2 * n) × HasPair ws n × Rose (old.unopened (word_at ws at)) (new.unopened (word_at ws at)) × Untouched (record old { file = new.file; unopened = new.unopened; taken = new.taken }) new)
     ⊎ (((at ≡ OUTPUT + 2 * n) × HasPair ws n ⊎ (at ≡ JOURNAL) × (length ws ≡ INPUT + 2 * n)) × Rose (old.writes (word_at ws at)) (new.writes (word_at ws at)) × Untouched (record old { file = new.file; writes = new.writes; taken = new.taken }) new)
 NotOpened old new ws n Memory = (INPUT + 2 * n ≤ length ws) × Untouched (record old { file = new.file; taken = new.taken }) new
 NotOpened old new ws n _ = ⊥

@@ -1,5 +1,6 @@
 -- What the steps of the commands hand to one another.
-use Rattle.std.specs.Prelude.{◌≡◌, ◌≢◌, ℕ, ◌+◌, ◌-◌, ◌<◌, ◌≤◌, false, Bool, IsTrue, List, [], ◌∷◌, ◌++◌, length, Option, Some, None, IsSome, Result}
+use Rattle.std.specs.Prelude.{◌≡◌, ◌≢◌, ℕ, ◌+◌, ◌-◌, ◌*◌, ◌<◌, ◌≤◌, ◌⊎◌, true, false, Bool, IsTrue, List, [], ◌∷◌, ◌++◌, length, map, All, Contains, Option, Some, None, IsSome, Result}
+use Rattle.std.specs.List.{AllZip}
 use mathlib.Core.List.{IsPrefix}
 use Rattle.atomic_table.specs.Seated.{TableId}
 use Rattle.sessions.specs.Listening.{Read, Wrote, reason_of}
@@ -7,20 +8,25 @@ use Rattle.sessions.specs.Session.{Served}
 use Rattle.sessions.specs.Worlds.{HasGivenBack}
 use Rattle.sessions.specs.declared.end.Reason as reason
 use Rattle.sessions.specs.declared.end.SessionEnd.{SessionEnd}
-use Rattle.turn_gate.specs.Meaning.{Passed}
-use Rattle.version_store.specs.Sharing.{IsOwn}
+use Rattle.turn_gate.specs.Meaning.{Passed, made_by}
+use Rattle.version_store.specs.Histories.{journal}
+use Rattle.version_store.specs.Sharing.{IsOwn, maker}
 use Rattle.version_store.specs.declared.history.Entry.{Entry}
 use Rattle.view_ends.specs.Calls.{Shuts, Keeps}
 use Rattle.view_ends.specs.Desk.{Said, IsKnown, Untouched}
-use Rattle.view_ends.specs.Ends.{OthersStay}
+use Rattle.view_ends.specs.Ends.{AllStay, OthersStay, NoneForgotten, Rose}
 use Rattle.view_ends.specs.Pieces.{SourceSaid, SinkSaid}
 use Rattle.view_ends.specs.declared.fault.EndFault.{EndFault}
 use Rattle.view_words.specs.CommandLine.{badword, IsLine}
 use Rattle.view_words.specs.declared.row.Row as row
+use Rattle.view_base.specs.Fitting.{word_at}
+use Rattle.view_commands.specs.declared.places.TheConstants.{JOURNAL, INPUT}
 use Rattle.view_commands.specs.Run.{EndsAtOnce, RunsLine}
-use Rattle.view_commands.specs.Serve.{input, output, HasPair, Empties, NotOpened}
+use Rattle.view_commands.specs.Serve.{input, output, HasPair, Empties, IsNothing, NotOpened, first_fault, journal_text, status_at}
+use Rattle.view_commands.specs.Texts.{KeepsText}
+use Rattle.view_commands.specs.declared.finishing.Outcomes.{Outcomes}
 use Rattle.view_commands.specs.declared.status.Status as status
-use Rattle.view_commands.specs.declared.status.Status.TheVariants.{Words}
+use Rattle.view_commands.specs.declared.status.Status.TheVariants.{Words, OpenFault, Memory}
 use Rattle.view_commands.specs.declared.told.Ended.{Ended}
 
 -- nothing changed but a file, and what its writing and its keeping count
@@ -61,7 +67,39 @@ pub record IsFresh (tells : Bool) (gate : TableId) (k : ℕ) (seat : Seated) : T
   pub pass : seat.pass ≡ record { gate = gate; who = k + 1; seen = []; mine = []; turn = None; root = false; out = 0; given = 0; kept = [] }
   pub own : IsOwn seat.pass
 
--- the names of session k were opened for it
+-- a name was opened for reading, or why not
+pub record OpensRead (old new : Said) (name : List ℕ) : Type 0 where
+  pub known : IsKnown new name
+  pub rest : Untouched old new
+
+abbrev pub RefusesRead : Said → Said → List ℕ → ℕ → status.Status → Type 0
+RefusesRead old new name at (OpenFault place) = (place ≡ at) × Rose (old.unopened name) (new.unopened name) × OthersStay old.unopened new.unopened name × Untouched (record old { unopened = new.unopened }) new
+RefusesRead old new name at Memory = Untouched old new
+RefusesRead old new name at _ = ⊥
+
+-- a name was opened for writing, or why not
+pub record OpensWritten (tells : Bool) (old new : Said) (name : List ℕ) : Type 0 where
+  pub empty : IsTrue tells → new.file name ≡ Some []
+  pub files : OthersStay old.file new.file name
+  pub known : IsKnown new name
+  pub rest : Untouched (record old { file = new.file }) new
+
+abbrev pub RefusesWritten : Said → Said → List ℕ → ℕ → status.Status → Type 0
+RefusesWritten old new name at (OpenFault place) = (place ≡ at) × Rose (old.writes name) (new.writes name) × Untouched (record old { writes = new.writes }) new
+RefusesWritten old new name at Memory = Untouched old new
+RefusesWritten old new name at _ = ⊥
+
+-- the names of session k were opened just now
+pub record OpensSession (tells : Bool) (old new : Said) (ws : List (List ℕ)) (gate : TableId) (k : ℕ) (seat : Seated) : Type 0 where
+  pub fresh : IsFresh tells gate k seat
+  pub left : seat.input.left ≡ old.file (input ws k)
+  pub empty : IsTrue tells → new.file (output ws k) ≡ Some []
+  pub files : OthersStay old.file new.file (output ws k)
+  pub rest : Untouched (record old { file = new.file }) new
+  pub input_known : IsKnown new (input ws k)
+  pub output_known : IsKnown new (output ws k)
+
+-- the names of session k were opened for it, since this desk was so
 pub record IsOpened (tells : Bool) (old new : Said) (ws : List (List ℕ)) (gate : TableId) (k : ℕ) (seat : Seated) : Type 0 where
   pub fresh : IsFresh tells gate k seat
   pub script : ((j : ℕ) → j < k → output ws j ≢ input ws k) → seat.input.left ≡ old.file (input ws k)
@@ -86,13 +124,34 @@ pub record ShutsUnread (old new : Said) (ws : List (List ℕ)) : Type 0 where
   pub only : OnlyInputs old new ws
   pub rest : Untouched (record old { taken = new.taken }) new
 
--- not all was opened, and every input that was is shut, or is still to be
+-- the input of session k was opened, and nothing was taken of it
+pub record IsUnread (said : Said) (ws : List (List ℕ)) (k : ℕ) (seat : Seated) : Type 0 where
+  pub untaken : seat.input.taken ≡ 0
+  pub faultless : seat.input.faults ≡ 0
+  pub known : IsKnown said (input ws k)
+
+-- the next name was not opened, once those of the first n sessions were, and no file changed
+pub record RefusesNext (old new : Said) (ws : List (List ℕ)) (n : ℕ) (ended : status.Status) : Type 0 where
+  pub files : AllStay old.file new.file
+  pub cause : NotOpened old new ws n ended
+  pub untaken : (other : List ℕ) → new.taken other ≤ old.taken other
+  pub only : OnlyInputs old new ws
+  pub known : NoneForgotten (IsKnown old) (IsKnown new)
+
+-- not all names were opened
 pub record RefusesOpening (tells : Bool) (old new : Said) (ws : List (List ℕ)) (ended : status.Status) : Type 0 where
   pub opened : ℕ
   pub files : Empties tells old new ws opened
   pub cause : NotOpened old new ws opened ended
   pub untaken : (other : List ℕ) → new.taken other ≤ old.taken other
   pub only : OnlyInputs old new ws
+
+-- all names were opened, those of the sessions for them
+pub record OpensAll (tells : Bool) (old new : Said) (ws : List (List ℕ)) (gate : TableId) (seats : List Seated) : Type 0 where
+  pub each : EachFrom (IsOpened tells old new ws gate) 0 seats
+  pub files : (other : List ℕ) → ((k : ℕ) → HasPair ws k → other ≢ output ws k) → other ≢ word_at ws JOURNAL → new.file other ≡ old.file other
+  pub rest : Untouched (record old { file = new.file }) new
+  pub journal_known : IsKnown new (word_at ws JOURNAL)
 
 -- a session may be served over the store of this gate
 pub record CanServe (gate : TableId) (seat : Seated) : Type 0 where
@@ -125,6 +184,14 @@ FinishesAll ws k [] [] old new = new ≡ old
 FinishesAll ws k (seat ∷ seats) (kept ∷ others) old new = (mid : Said) × Finishes old mid (input ws k) (output ws k) seat kept × FinishesAll ws (k + 1) seats others mid new
 FinishesAll ws k _ _ old new = ⊥
 
+-- a session may be finished: its names are known, and its pass is of this gate and outside any turn
+pub record CanFinish (said : Said) (ws : List (List ℕ)) (gate : TableId) (k : ℕ) (seat : Seated) : Type 0 where
+  pub input_known : IsKnown said (input ws k)
+  pub output_known : IsKnown said (output ws k)
+  pub gate_is : seat.pass.gate ≡ gate
+  pub split : seat.pass.root ≡ false
+  pub outside : seat.pass.turn ≡ None
+
 -- a pass was joined to the root
 pub record Joins (old new pass : Passed Entry) : Type 0 where
   pub root : new ≡ record old { seen = new.seen; out = old.out - 1; kept = old.kept ++ (pass.who, pass.mine) ∷ [] }
@@ -135,3 +202,41 @@ pub record Joins (old new pass : Passed Entry) : Type 0 where
 abbrev pub JoinsAll : List Seated → Passed Entry → Passed Entry → Type 0
 JoinsAll [] old new = new ≡ old
 JoinsAll (seat ∷ seats) old new = (mid : Passed Entry) × Joins old mid seat.pass × JoinsAll seats mid new
+
+-- nothing is noted of sessions yet, and there is room for what is noted of so many
+pub record IsRoomFor (count : ℕ) (outcomes : Outcomes) : Type 0 where
+  pub no_ends : outcomes.ends.items ≡ []
+  pub no_kept : outcomes.kept.items ≡ []
+  pub ends_room : count ≤ outcomes.ends.spare
+  pub kept_room : count ≤ outcomes.kept.spare
+
+-- the sessions that were served with this root of their passes are finished, and the journal is written
+pub record FinishesRun (tells : Bool) (old new : Said) (ws : List (List ℕ)) (seats : List Seated) (root : Passed Entry) (ended : Ended) : Type 0 where
+  pub finished : Said
+  pub kept : List reason.Reason
+  pub last : Passed Entry
+  pub finishes : FinishesAll ws 0 seats kept old finished
+  pub joins : JoinsAll seats root last
+  pub own : IsOwn last
+  pub history : ended.told.history.items ≡ last.seen
+  pub makers : All (λ (entry : Entry). (entry.who ≡ 0) ⊎ Contains (map (λ (joined : ℕ × List Entry). joined.0) last.kept) entry.who) last.seen
+  pub made : All (λ (joined : ℕ × List Entry). made_by maker joined.0 last.seen ≡ joined.1) last.kept
+  pub ends : ended.told.sessions.items ≡ map (λ (seat : Seated). seat.end) seats
+  pub journal : KeepsText tells finished new (word_at ws JOURNAL) (journal_text (journal ended.told.history.items)) ended.told.journal
+  pub only : OnlyWrote finished new (word_at ws JOURNAL)
+  pub status : ended.status ≡ first_fault INPUT (map (λ (end : SessionEnd). end.reason) ended.told.sessions.items) (first_fault INPUT kept (status_at JOURNAL JOURNAL ended.told.journal))
+
+-- all names were opened, the sessions were served over a survey with these bytes, and the run was finished
+pub record RunsAll (tells : Bool) (old new : Said) (ws : List (List ℕ)) (b : List ℕ) (ended : Ended) : Type 0 where
+  pub gate : TableId
+  pub begun : List Seated
+  pub served : List Seated
+  pub began : Said
+  pub opens : OpensAll tells old began ws gate begun
+  pub serves : AllZip (IsServed b) begun served
+  pub pairs : length ws ≡ 4 + 2 * length begun
+  pub finishes : FinishesRun tells began new ws served (record { gate = gate; who = 0; seen = []; mine = []; turn = None; root = true; out = length begun; given = length begun; kept = [] }) ended
+
+-- not all names were opened, or the sessions ran
+abbrev pub ServesIn : Bool → Said → Said → List (List ℕ) → List ℕ → Ended → Type 0
+ServesIn tells old new ws b ended = (IsNothing ended.told × RefusesOpening tells old new ws ended.status) ⊎ RunsAll tells old new ws b ended

@@ -49,8 +49,7 @@ NoSurvey tells old new name _ = ⊥
 -- where the desk tells its files and the keeping of a name was not refused, its file is a front of these bytes
 -- that lacks the last of them, if there is one
 abbrev pub HoldsPart : Bool → Said → Said → List ℕ → List ℕ → Type 0
-HoldsPart tells old new name bytes = IsTrue tells → (Rose (old.unkept name) (new.unkept name) → ⊥)
-    → (k : ℕ) × (k ≤ length bytes - 1) × (new.file name ≡ Some (take k bytes))
+HoldsPart tells old new name bytes = IsTrue tells → (Rose (old.unkept name) (new.unkept name) → ⊥) → (k : ℕ) × (k ≤ length bytes - 1) × (new.file name ≡ Some (take k bytes))
 
 -- what came of bytes that were given to an opened name and kept: its file, and its count of failed writes
 abbrev pub KeepsText : Bool → Said → Said → List ℕ → List ℕ → reason.Reason → Type 0
@@ -73,8 +72,7 @@ pub record Settles (b : List ℕ) (refusal : Option status.Status) (calm : Type 
   -- too many bytes end with `TooLong`
   pub too_long : LIMIT < length b → (ended ≡ TooLong) ⊎ (ended ≡ Memory)
   -- few enough bytes with a fault end with the first of it
-  pub not_laid : length b ≤ LIMIT → (fault : layout.Fault) → layout.fault b ≡ Some fault
-      → ((found : SurveyFault) × (ended ≡ Survey found) × (fault_of found ≡ fault)) ⊎ (ended ≡ Memory)
+  pub not_laid : length b ≤ LIMIT → (fault : layout.Fault) → layout.fault b ≡ Some fault → ((found : SurveyFault) × (ended ≡ Survey found) × (fault_of found ≡ fault)) ⊎ (ended ≡ Memory)
   -- those that are laid out and refused end with the refusal
   pub refused : length b ≤ LIMIT → IsLaid b → (status : status.Status) → refusal ≡ Some status → (ended ≡ status) ⊎ (ended ≡ Memory)
   -- and those that are laid out and not refused with `Done`
@@ -82,8 +80,7 @@ pub record Settles (b : List ℕ) (refusal : Option status.Status) (calm : Type 
 
 -- the same of the file of a name, where the desk tells its files
 abbrev pub SettlesFile : Bool → Said → Said → List ℕ → (List ℕ → Option status.Status) → Type 0 → status.Status → Type 0
-SettlesFile tells old new name refusal calm ended = IsTrue tells → (b : List ℕ) → old.file name ≡ Some b
-    → (Rose (old.unopened name) (new.unopened name) → ⊥) → (Rose (old.reads name) (new.reads name) → ⊥) → Settles b (refusal b) calm ended
+SettlesFile tells old new name refusal calm ended = IsTrue tells → (b : List ℕ) → old.file name ≡ Some b → (Rose (old.unopened name) (new.unopened name) → ⊥) → (Rose (old.reads name) (new.reads name) → ⊥) → Settles b (refusal b) calm ended
 
 -- a command that refuses no survey
 abbrev pub refuses_none : List ℕ → Option status.Status

@@ -3,6 +3,7 @@
 #![tactic(auto)]
 
 mod drawing;
+mod finishing;
 mod informing;
 mod journal;
 mod opening;

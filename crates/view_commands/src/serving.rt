@@ -1,93 +1,165 @@
 ghost use Rattle.std.specs.Arc.{arc_value};
-ghost use Rattle.std.specs.Prelude.{◌≡◌, ◌≢◌, ◌≤◌, [], IsSome, IsTrue};
+ghost use Rattle.std.specs.Prelude.{◌≡◌, ◌+◌, ◌*◌, ◌≤◌, true, None, [], length, vec_capacity, IfOk};
+ghost use Rattle.sessions.specs.Worlds.{IsWorld};
+ghost use Rattle.view_base.specs.Fitting.{word_at};
 ghost use Rattle.view_ends.specs.Desk.{IsKnown};
-ghost use Rattle.view_commands.specs.Serve.{ServesOne};
-ghost use Rattle.view_commands.specs.Steps.{IsUnread, IsUnwritten, OnlyInput, RunsOne};
+ghost use Rattle.view_words.specs.CommandLine.{IsLine, texts};
+ghost use Rattle.view_commands.specs.Serve.{ServesLine};
+ghost use Rattle.view_commands.specs.Steps.{CanFinish, EachFrom, FinishesRun, IsRoomFor, IsUnwritten, ServesIn};
 
+ghost use Rattle.view_commands.specs.declared.places.TheConstants.{JOURNAL};
+
+use crate::finishing::{Outcomes, finish_all};
 use crate::journal::write_journal;
-use crate::opening::{Names, Opened, open_ends};
+use crate::opening::{journal_name, open_all, shut_all};
+use crate::places::SURVEY;
+use crate::seats::Seat;
+use crate::side_by_side::serve_all;
 use crate::status::{Status, status_of};
-use crate::texts::{read_survey, reason_of};
+use crate::texts::read_survey;
 use crate::told::{Ended, Told};
-use sessions::{Ends, History, Scene, serve_alone};
+use las_survey::Survey;
+use sessions::{Scene, World};
 use std::alloc::Global;
-use std::sync::Arc;
-use view_ends::{Beside, Desk};
+use std::sync::{Arc, Wait};
+use std::thread::Threads;
+use version_store::{Pass, Shared};
+use view_base::OutOfMemory;
+use view_ends::{Beside, Desk, Sink, Source};
+use view_words::{Row, pair_count, text_at, workers};
 
-/// Serves one session over a survey, from its input into its output, and then writes the journal.
-/// The room for the session's end is made before anything is opened to write.
-pub(crate) fn serve<D: Desk, B: Beside>(
+/// What the sessions of a run share, and the room for them, which is made before anything is opened
+/// to write.
+struct Room<I: Source, O: Sink> {
+    world: World,
+    root: Pass,
+    seats: Vec<Seat<I, O>>,
+    outcomes: Outcomes,
+}
+
+/// Serves the sessions of a `serve` whose words fit, all side by side over one survey, and then
+/// writes the journal.
+pub(crate) fn serve<R: Threads + Wait + Sync, D: Desk, B: Beside>(
     alloc: Global,
-    names: Names,
-    workers: u32,
+    rt: &R,
+    words: &[String],
     desk: &mut D,
     beside: &B,
 ) -> Ended
-    requires read { names.survey.now ≢ names.input.now }
-    requires written { names.journal.now ≢ names.output.now }
-    requires workers { (1 ≤ workers) × (workers ≤ 64) }
-    ensures { ServesOne D.tells (D.says desk.old) (D.says desk.new) names.entry.survey.now names.entry.journal.now names.entry.input.now names.entry.output.now result }
+    requires line { IsLine Row.Serve (texts words.now) }
+    ensures { ServesLine D.tells (D.says desk.old) (D.says desk.new) (texts words.now) result }
 {
-    let survey = match read_survey(alloc, desk, names.survey) {
+    let count = pair_count(words);
+    let survey = match read_survey(alloc, desk, text_at(words, SURVEY as usize)) {
         Ok(survey) => survey,
         Err(status) => return Ended::only(alloc, status),
     };
-    let Ok(survey) = Arc::new(alloc, survey) else {
-        return Ended::only(alloc, Status::Memory);
-    };
-    let mut sessions = Ends::new(alloc);
-    if sessions.reserve(1).is_err() {
-        return Ended::only(alloc, Status::Memory);
-    }
-    let scene = Scene { survey, workers };
-    match open_ends(desk, names) {
-        Ok(ends) => serve_opened(alloc, &scene, names, ends, sessions, desk, beside),
-        Err(status) => Ended::only(alloc, status),
+    match make_room(alloc, survey, workers(Row::Serve, words), count) {
+        Ok(room) => serve_in(alloc, rt, words, count, room, desk, beside),
+        Err(OutOfMemory) => Ended::only(alloc, Status::Memory),
     }
 }
 
-/// Serves one session from an opened input into an opened output, and then writes the journal.
-/// Each is shut or kept, whatever failed before.
-fn serve_opened<D: Desk, B: Beside>(
+/// The world of the sessions, over a survey, and the room for them.
+fn make_room<I: Source, O: Sink>(
     alloc: Global,
-    scene: &Scene,
-    names: Names,
-    ends: Opened<D::In, D::Out>,
-    mut sessions: Ends,
+    survey: Survey,
+    workers: u32,
+    count: u32,
+) -> Result<Room<I, O>, OutOfMemory>
+    requires workers { (1 ≤ workers) × (workers ≤ 64) }
+    ensures world { IfOk result (λ room. IsWorld room.world) }
+    ensures survey { IfOk result (λ room. arc_value room.world.scene.survey ≡ survey) }
+    ensures root { IfOk result (λ room. room.root ≡ record { gate = room.world.shared.name; who = 0; seen = []; mine = []; turn = None; root = true; out = 0; given = 0; kept = [] }) }
+    ensures none { IfOk result (λ room. room.seats.items ≡ []) }
+    ensures room { IfOk result (λ room. count ≤ vec_capacity room.seats) }
+    ensures outcomes { IfOk result (λ room. IsRoomFor count room.outcomes) }
+{
+    let survey = Arc::new(alloc, survey)?;
+    let (shared, root) = Shared::new(alloc, Arc::try_clone(&survey)?)?;
+    let outcomes = Outcomes::with_room(alloc, count)?;
+    let seats = Vec::with_capacity(alloc, count as usize)?;
+    Ok(Room {
+        world: World {
+            scene: Scene { survey, workers },
+            shared,
+        },
+        root,
+        seats,
+        outcomes,
+    })
+}
+
+/// Opens all names, and serves the sessions where that is not refused.
+fn serve_in<R: Threads + Wait + Sync, D: Desk, B: Beside>(
+    alloc: Global,
+    rt: &R,
+    words: &[String],
+    count: u32,
+    room: Room<D::In, D::Out>,
     desk: &mut D,
     beside: &B,
 ) -> Ended
-    requires written { names.journal.now ≢ names.output.now }
-    requires workers { (1 ≤ scene.now.workers) × (scene.now.workers ≤ 64) }
-    requires none { sessions.items ≡ [] }
-    requires room { 1 ≤ sessions.spare }
-    requires input_known { IsKnown (D.says desk.old) names.input.now }
-    requires output_known { IsKnown (D.says desk.old) names.output.now }
-    requires journal_known { IsKnown (D.says desk.old) names.journal.now }
-    requires there { IsTrue D.tells → IsSome (D.In.left ends.input) }
-    requires input { IsUnread (D.In.taken ends.input) (D.In.faults ends.input) }
-    requires output { IsUnwritten D.tells (D.Out.got ends.output) (D.Out.faults ends.output) }
-    requires journal { IsUnwritten D.tells (D.Out.got ends.journal) (D.Out.faults ends.journal) }
-    ensures one { RunsOne D.tells (D.says desk.old) (D.says desk.new) names.entry.journal.now names.entry.input.now names.entry.output.now (arc_value scene.now.survey) (D.In.left ends.input) result }
-    ensures only { OnlyInput (D.says desk.old) (D.says desk.new) names.entry.input.now }
+    requires line { IsLine Row.Serve (texts words.now) }
+    requires pairs { length words.now ≡ 4 + 2 * count }
+    requires some { 1 ≤ count }
+    requires few { count ≤ 16 }
+    requires world { IsWorld room.world }
+    requires root { room.root ≡ record { gate = room.world.shared.name; who = 0; seen = []; mine = []; turn = None; root = true; out = 0; given = 0; kept = [] } }
+    requires none { room.seats.items ≡ [] }
+    requires room { count ≤ vec_capacity room.seats }
+    requires outcomes { IsRoomFor count room.outcomes }
+    ensures { ServesIn D.tells (D.says desk.old) (D.says desk.new) (texts words.now) (arc_value room.world.scene.survey) result }
 {
-    let Opened {
-        mut input,
-        mut output,
-        journal,
-    } = ends;
-    let mut history = History::new(alloc);
-    let end = serve_alone(alloc, scene, &mut history, &mut input, &mut output, beside);
-    desk.shut(names.input, input);
-    let kept = reason_of(desk.keep(names.output, output));
-    let journal = write_journal(alloc, desk, names.journal, journal, history.as_slice());
-    let status = status_of(end.reason, kept, journal);
-    sessions.push(end).unwrap();
+    let Room {
+        world,
+        mut root,
+        mut seats,
+        outcomes,
+    } = room;
+    match open_all(alloc, desk, words, count, &world.shared, &mut root, &mut seats) {
+        Ok(journal) => {
+            serve_all(alloc, rt, &world, seats.as_mut_slice(), beside);
+            let World { scene: _, shared } = world;
+            finish_run(alloc, words, shared, root, seats, outcomes, journal, desk)
+        }
+        Err(status) => {
+            shut_all(desk, words, 0, seats.into_iter());
+            Ended::only(alloc, status)
+        }
+    }
+}
+
+/// Shuts and keeps what the sessions read and wrote, and then writes the journal, whatever failed.
+fn finish_run<D: Desk>(
+    alloc: Global,
+    words: &[String],
+    shared: Shared,
+    mut root: Pass,
+    seats: Vec<Seat<D::In, D::Out>>,
+    mut outcomes: Outcomes,
+    journal: D::Out,
+    desk: &mut D,
+) -> Ended
+    requires pairs { length words.now ≡ 4 + 2 * length seats.items }
+    requires some { 1 ≤ length seats.items }
+    requires few { length seats.items ≤ 16 }
+    requires root { root ≡ record { gate = shared.name; who = 0; seen = []; mine = []; turn = None; root = true; out = length seats.items; given = length seats.items; kept = [] } }
+    requires seats { EachFrom (CanFinish (D.says desk.old) (texts words.now) shared.name) 0 seats.items }
+    requires outcomes { IsRoomFor (length seats.items) outcomes }
+    requires journal { IsUnwritten D.tells (D.Out.got journal) (D.Out.faults journal) }
+    requires known { IsKnown (D.says desk.old) (word_at (texts words.now) JOURNAL) }
+    ensures { FinishesRun D.tells (D.says desk.old) (D.says desk.new) (texts words.now) seats.items root result }
+{
+    finish_all(desk, words, 0, &shared, &mut root, seats.into_iter(), &mut outcomes);
+    let history = shared.close(root).into_history();
+    let journal = write_journal(alloc, desk, journal_name(words), journal, history.as_slice());
+    let Outcomes { ends, kept } = outcomes;
     Ended {
-        status,
+        status: status_of(&ends, &kept, journal),
         told: Told {
             history,
-            sessions,
+            sessions: ends,
             journal,
         },
     }

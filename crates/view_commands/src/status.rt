@@ -1,11 +1,14 @@
-ghost use Rattle.std.specs.Prelude.{◌≡◌, ◌+◌, ◌*◌, ◌^◌, ◌<◌, length};
+ghost use Rattle.std.specs.Prelude.{◌≡◌, ◌+◌, ◌*◌, ◌^◌, ◌<◌, ◌≤◌, length, map};
+ghost use Rattle.view_commands.specs.declared.places.TheConstants.{INPUT, JOURNAL};
 ghost use Rattle.view_commands.specs.Serve as serve;
 ghost use Rattle.view_commands.specs.Status.{code_of};
 
+use crate::places::{INPUT, JOURNAL};
 use int_camera::CameraLimit;
 use las_survey::SurveyFault;
-use sessions::Reason;
+use sessions::{Ends, Reason, SessionEnd};
 use std::fmt;
+use view_base::Listing;
 
 /// How a command ended. `at` is the place of a word of the command line, from 0.
 #[derive(Clone, Copy, Debug, PartialEq, Eq)]
@@ -55,6 +58,32 @@ pub fn code(status: &Status) -> u8
         Status::SessionLimit { .. } => 10,
         Status::Memory => 11,
         Status::NotYet => 12,
+    }
+}
+
+/// The status of a run: that of the first session with a fault, else of the first output that was
+/// not kept, else of the journal.
+pub(crate) fn status_of(ends: &Ends, kept: &Listing<Reason>, journal: Reason) -> Status
+    requires ends { length ends.now.items ≤ 16 }
+    requires kept { length kept.now.items ≤ 16 }
+    ensures { result ≡ serve.first_fault INPUT (map (λ end. end.reason) ends.now.items) (serve.first_fault INPUT kept.now.items (serve.status_at JOURNAL JOURNAL journal)) }
+{
+    let journal = status_at(JOURNAL, JOURNAL, journal);
+    let kept = first_fault(INPUT, kept.as_slice(), journal);
+    first_unfinished(INPUT, ends.as_slice(), kept)
+}
+
+/// The first fault of the sessions with these ends, as `first_fault` says it.
+fn first_unfinished(at: u32, ends: &[SessionEnd], last: Status) -> Status
+    requires { at + 2 * length ends.now < 2 ^ 32 }
+    ensures { result ≡ serve.first_fault at (map (λ end. end.reason) ends.now) last }
+{
+    match ends {
+        [] => last,
+        [end, others @ ..] => match status_at(at, at + 1, end.reason) {
+            Status::Done => first_unfinished(at + 2, others, last),
+            status => status,
+        },
     }
 }
 

@@ -30,6 +30,7 @@ fn ended(rt: &HostRuntime) -> Status {
     };
     run(
         rt.alloc(),
+        rt,
         &words,
         &mut HostDesk::new(own, rt.alloc()),
         &NoBeside,

@@ -1,24 +1,36 @@
-use Rattle.std.proofs.Common.{rules, ◌≡◌, List, ℕ, subst}
+use Rattle.std.proofs.Common.{◌≡◌, ◌+◌, ◌*◌, ◌∙◌, List, ℕ, length, subst}
+use Rattle.std.proofs.lemmas.List.{length-map}
 use Rattle.std.specs.Arc.{arc_value}
+use Rattle.std.specs.Prelude.{string_bytes}
 use Rattle.view_ends.specs.Desk.{Said}
-use Rattle.view_commands.specs.Serve.{RunsSession}
-use Rattle.view_commands.proofs.OneSession.{serves-none, serves-unopened, serves-session}
+use Rattle.view_words.specs.CommandLine.{texts}
+use Rattle.view_commands.specs.Steps.{ServesIn}
+use Rattle.view_commands.specs.Texts.{IsReadWhole, NoSurvey, OnlyTook}
+use Rattle.view_commands.proofs.Serves.{serves-in, serves-memory, serves-none}
 use Rattle.view_commands.proofs.serving.serve.Goals as goal
 
 pub returns-in-Err : goal.returns-in-Err
-returns-in-Err g c = serves-none _ _ _ _ _ _ _ c.in-Err.status c.only.result c.requires.read c.only.ensures.status c.only.ensures.told c.in-Err.ensures.refused
+returns-in-Err g c =
+    let pairs : length (texts c.args.words.now) ≡ 4 + 2 * c.pair_count-count.result = length-map c.args.words.now string_bytes ∙ c.pair_count-count.ensures.count in
+    let none = subst (λ (name : List ℕ). NoSurvey g.D.Desk.tells (g.D.Desk.says c.args.desk.now) (g.D.Desk.says c.read_survey.new.desk) name c.in-Err.status) c.text_at.ensures c.in-Err.ensures.refused in
+    serves-none _ _ _ (texts c.args.words.now) c.pair_count-count.result c.in-Err.status c.only.result c.requires.line pairs c.only.ensures.status c.only.ensures.told none
 
-pub returns-in-Err-open_ends : goal.returns-in-Err-open_ends
-returns-in-Err-open_ends g c =
-    serves-unopened _ _ (g.D.Desk.says c.read_survey.new.desk) _ _ _ _ _ c.in-Ok.survey c.in-Err-open_ends.status c.only-in-Err-open_ends.result c.requires.read c.only-in-Err-open_ends.ensures.status c.only-in-Err-open_ends.ensures.told
-    c.in-Ok.ensures.laid c.in-Ok.ensures.read c.in-Ok.ensures.took c.in-Err-open_ends.ensures.refused c.in-Err-open_ends.ensures.only c.in-Err-open_ends.ensures.untaken
+pub returns-in-Err-make_room : goal.returns-in-Err-make_room
+returns-in-Err-make_room g c =
+    let old : Said = g.D.Desk.says c.args.desk.now in
+    let mid : Said = g.D.Desk.says c.read_survey.new.desk in
+    let pairs : length (texts c.args.words.now) ≡ 4 + 2 * c.pair_count-count.result = length-map c.args.words.now string_bytes ∙ c.pair_count-count.ensures.count in
+    let read = subst (λ (name : List ℕ). IsReadWhole g.D.Desk.tells old mid name c.in-Ok.survey) c.text_at.ensures c.in-Ok.ensures.read in
+    let took = subst (λ (name : List ℕ). OnlyTook old mid name) c.text_at.ensures c.in-Ok.ensures.took in
+    serves-memory _ _ _ (texts c.args.words.now) c.in-Ok.survey c.pair_count-count.result c.only-in-Err-make_room.result c.requires.line pairs c.in-Ok.ensures.laid read took c.only-in-Err-make_room.ensures.status c.only-in-Err-make_room.ensures.told
 
-pub returns-in-Ok-open_ends : goal.returns-in-Ok-open_ends
-returns-in-Ok-open_ends g c =
-    let last : Said = g.D.Desk.says c.open_ends.new.desk in
-    let new : Said = g.D.Desk.says c.serve_opened.new.desk in
-    let ran = c.serve_opened.ensures.one in
-    let bytes : arc_value c.in-Ok-new.survey ≡ c.in-Ok.survey = search rules in
-    let runs = subst (λ (b : List ℕ). RunsSession g.D.Desk.tells last new c.args.names.journal.now c.args.names.input.now c.args.names.output.now b (g.D.In.Source.left c.in-Ok-open_ends.ends.input) c.serve_opened.result ran.0) bytes ran.2 in
-    serves-session g.D.Desk.tells _ (g.D.Desk.says c.read_survey.new.desk) last new c.args.names.survey.now c.args.names.journal.now c.args.names.input.now c.args.names.output.now c.in-Ok.survey _ c.serve_opened.result ran.0 c.requires.read ran.1
-    c.in-Ok.ensures.laid c.in-Ok.ensures.read c.in-Ok.ensures.took c.in-Ok-open_ends.ensures.left c.in-Ok-open_ends.ensures.opened runs c.serve_opened.ensures.only
+pub returns-in-Ok-make_room : goal.returns-in-Ok-make_room
+returns-in-Ok-make_room g c =
+    let old : Said = g.D.Desk.says c.args.desk.now in
+    let mid : Said = g.D.Desk.says c.read_survey.new.desk in
+    let new : Said = g.D.Desk.says c.serve_in.new.desk in
+    let pairs : length (texts c.args.words.now) ≡ 4 + 2 * c.pair_count-count.result = length-map c.args.words.now string_bytes ∙ c.pair_count-count.ensures.count in
+    let read = subst (λ (name : List ℕ). IsReadWhole g.D.Desk.tells old mid name c.in-Ok.survey) c.text_at.ensures c.in-Ok.ensures.read in
+    let took = subst (λ (name : List ℕ). OnlyTook old mid name) c.text_at.ensures c.in-Ok.ensures.took in
+    let served = subst (λ (b : List ℕ). ServesIn g.D.Desk.tells mid new (texts c.args.words.now) b c.serve_in.result) c.in-Ok-make_room.ensures.survey c.serve_in.ensures in
+    serves-in _ _ mid _ (texts c.args.words.now) c.in-Ok.survey c.pair_count-count.result c.serve_in.result c.requires.line pairs c.in-Ok.ensures.laid read took served
