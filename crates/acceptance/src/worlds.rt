@@ -1,4 +1,4 @@
-ghost use Rattle.std.specs.Prelude.{◌≡◌, ◌+◌, ◌^◌, ◌<◌, [], None, true, false, IfOk};
+ghost use Rattle.std.specs.Prelude.{◌≡◌, ◌+◌, ◌-◌, ◌^◌, ◌<◌, [], None, true, false, IfOk};
 ghost use Rattle.sessions.specs.Worlds.{IsWorld, HasGivenBack};
 ghost use Rattle.version_store.specs.Sharing.{IsOwn};
 
