@@ -3,6 +3,7 @@ ghost use Rattle.sessions.specs.Worlds.{IsWorld, HasGivenBack};
 ghost use Rattle.version_store.specs.Sharing.{IsOwn};
 
 use crate::plain::{ONE, plain};
+use grid_blocks::build;
 use las_survey::load;
 use sessions::{Scene, World};
 use std::alloc::Global;
@@ -19,9 +20,14 @@ pub(crate) fn world(rt: &impl Abort, alloc: Global) -> Result<(World, Pass), Fai
 {
     let mut file = StillSource::new(plain(alloc, &ONE)?);
     let survey = load(alloc, &mut file).expect(rt, "a survey");
+    let blocks = build(alloc, &survey)?;
     let survey = Arc::new(alloc, survey)?;
     let (shared, root) = Shared::new(alloc, Arc::try_clone(&survey)?)?;
-    let scene = Scene { survey, workers: 1 };
+    let scene = Scene {
+        survey,
+        blocks,
+        workers: 1,
+    };
     Ok((World { scene, shared }, root))
 }
 
