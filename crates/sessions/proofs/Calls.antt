@@ -1,7 +1,6 @@
 -- What the calls on a shared store make of a session.
 use Rattle.std.proofs.Common.{◌≡◌, ℕ, ◌-◌, ◌≤◌, List, [], ◌∷◌, ◌++◌, length, take, Ok, Err, IfOk, refl, sym, ap, subst, ◌∙◌, arith, append_assoc, append-nil}
 use Rattle.std.proofs.lemmas.List.{take_all, take_at}
-use mathlib.Core.List.{IsPrefix}
 use Rattle.turn_gate.specs.Meaning.{Passed}
 use Rattle.turn_gate.proofs.Beginnings.{prefix_self, prefix_trans}
 use Rattle.view_meaning.specs.Classes as meaning

@@ -1,11 +1,10 @@
 -- What a session was told holds in every longer history.
-use Rattle.std.proofs.Common.{◌≡◌, ℕ, suc, ◌-◌, ◌≤◌, List, [], ◌∷◌, ◌++◌, length, take, drop, Option, Some, None, Ok, Err, refl, sym, ap, subst, ◌∙◌, arith}
+use Rattle.std.proofs.Common.{◌≡◌, ℕ, suc, ◌-◌, ◌≤◌, List, [], ◌∷◌, ◌++◌, length, take, drop, Option, Some, None, Ok, Err, refl, sym, ap, ◌∙◌, arith}
 use Rattle.std.specs.Prelude.{codes}
 use Rattle.std.proofs.lemmas.List.{take-append-le, take-append-drop, take_at, length-take, get_or-take}
 use mathlib.Core.List.{IsPrefix}
 use Rattle.turn_gate.specs.Meaning.{Passed, made_by}
 use Rattle.turn_gate.proofs.Beginnings.{prefix_nil, prefix_trans}
-use Rattle.view_ends.specs.Ends.{Gains}
 use Rattle.view_meaning.specs.Classes as meaning
 use Rattle.view_meaning.specs.Classes.{changed, classes, passing, saved}
 use Rattle.view_meaning.specs.Picture.{picture}

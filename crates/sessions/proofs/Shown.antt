@@ -1,10 +1,10 @@
 -- The bytes of a pixel in a picture, and the record that they show.
-use Rattle.std.proofs.Common.{◌≡◌, ℕ, suc, ◌+◌, ◌-◌, ◌*◌, ◌<◌, List, ◌++◌, length, take, drop, append_assoc, Option, refl, sym, ◌∙◌, ap, subst, arith}
+use Rattle.std.proofs.Common.{◌≡◌, ℕ, suc, ◌+◌, ◌-◌, ◌*◌, ◌<◌, List, ◌++◌, length, take, drop, append_assoc, sym, ◌∙◌, ap, subst, arith}
 use Rattle.std.proofs.Math.Seq.{take-append_seam, drop-append_seam}
 use Rattle.std.proofs.lemmas.List.{length-append}
 use Rattle.std.proofs.lemmas.Grind.{flat_map-append}
 use Rattle.std.specs.List.{flat_map, range_with_len}
-use Rattle.view_meaning.specs.Picture.{View, Shows, shown, nearest, pixel, picture_row, picture, ppm_header}
+use Rattle.view_meaning.specs.Picture.{View, nearest, pixel, picture_row, picture, ppm_header}
 use Rattle.view_meaning.proofs.Law.{nearest_shows}
 use Rattle.view_meaning.proofs.Rows.{range-append}
 use Rattle.sessions.specs.Shown.{bytes_of_pixel, ShowsNearest}

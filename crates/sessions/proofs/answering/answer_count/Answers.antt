@@ -1,4 +1,4 @@
-use Rattle.std.proofs.Common.{◌≡◌, ◌∙◌, ◌++◌, List, ℕ, ap, refl}
+use Rattle.std.proofs.Common.{◌∙◌, ◌++◌, List, ℕ, ap, refl}
 use Rattle.std.specs.Arc.{arc_value}
 use Rattle.std.specs.Prelude.{codes}
 use Rattle.view_meaning.specs.Classes.{passing}

@@ -1,6 +1,6 @@
-use Rattle.std.proofs.Common.{◌∙◌, ◌++◌, ◌∷◌, [], List, ℕ, ap, refl, decimal}
+use Rattle.std.proofs.Common.{◌∙◌, ◌++◌, ◌∷◌, [], List, ℕ, ap, decimal}
 use Rattle.std.specs.Prelude.{codes}
-use Rattle.sessions.specs.Talk.{talk_of, last_mark}
+use Rattle.sessions.specs.Talk.{last_mark}
 use Rattle.sessions.proofs.Answered.{answered_refused}
 use Rattle.sessions.proofs.answering.answer_refusal.Goals as goal
 

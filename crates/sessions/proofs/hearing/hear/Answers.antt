@@ -1,4 +1,4 @@
-use Rattle.std.proofs.Common.{◌≡◌, ◌++◌, ◌∷◌, ◌∙◌, [], ◌+◌, take, drop, refl, sym, ap, rules, arith, Some, is_ok, List, ℕ, Option}
+use Rattle.std.proofs.Common.{◌≡◌, ◌++◌, ◌∷◌, ◌∙◌, [], ◌+◌, take, drop, refl, sym, ap, rules, arith, Some, is_ok, List, ℕ}
 use Rattle.std.specs.List.{position}
 use Rattle.std.specs.Arc.{arc_value}
 use Rattle.std.proofs.lemmas.List.{append_assoc, append-nil, take_all, length-drop}

@@ -1,4 +1,4 @@
-use Rattle.std.proofs.Common.{◌<◌, length, ap, rules, arith, is_ok, List, ℕ, Option}
+use Rattle.std.proofs.Common.{◌<◌, length, ap, rules, arith, is_ok, List, ℕ}
 use Rattle.std.specs.Arc.{arc_value}
 use Rattle.sessions.specs.Lines.{rest}
 use Rattle.sessions.specs.Talk.{Start, talk_of}
