@@ -5,6 +5,7 @@ ghost use Rattle.sessions.specs.Worlds.{IsWorld, HasGivenBack};
 
 use crate::{Reason, Scene, World, serve_session};
 use edit_ops::read_edit;
+use grid_blocks::build;
 use las_survey::{Survey, load};
 use std::alloc::Global;
 use std::process::Abort;
@@ -38,9 +39,15 @@ fn world(alloc: Global) -> Result<(World, Pass), Fail>
     ensures world { IfOk result (λ r. IsWorld r.0) }
     ensures pass { IfOk result (λ r. r.1 ≡ record { gate = r.0.shared.name; who = 0; seen = []; mine = []; turn = None; root = true; out = 0; given = 0; kept = [] }) }
 {
-    let survey = Arc::new(alloc, survey(alloc)?)?;
+    let survey = survey(alloc)?;
+    let blocks = build(alloc, &survey)?;
+    let survey = Arc::new(alloc, survey)?;
     let (shared, root) = Shared::new(alloc, Arc::try_clone(&survey)?)?;
-    let scene = Scene { survey, workers: 1 };
+    let scene = Scene {
+        survey,
+        blocks,
+        workers: 1,
+    };
     Ok((World { scene, shared }, root))
 }
 
