@@ -125,7 +125,7 @@ fn serve_in<R: Threads + Wait + Sync, D: Desk, B: Beside>(
     } = room;
     match open_all(alloc, desk, words, count, &world.shared, &mut root, &mut seats) {
         Ok(journal) => {
-            serve_all(alloc, rt, &world, seats.as_mut_slice(), beside);
+            serve_all(alloc, rt, &world, beside, seats.as_mut_slice());
             let World { scene: _, shared } = world;
             finish_run(alloc, words, shared, root, seats, outcomes, journal, desk)
         }

@@ -18,8 +18,8 @@ pub(crate) fn serve_all<R: Threads + Wait + Sync, I: Source + Send, O: Sink + Se
     alloc: Global,
     rt: &R,
     world: &World,
-    seats: &mut [Seat<I, O>],
     beside: &B,
+    seats: &mut [Seat<I, O>],
 )
     requires world { IsWorld world.now }
     requires ready { All (CanServe world.now.shared.name) seats.old }
@@ -27,7 +27,7 @@ pub(crate) fn serve_all<R: Threads + Wait + Sync, I: Source + Send, O: Sink + Se
 {
     let count = seats.len();
     if count < 2 {
-        serve_first(alloc, rt, world, seats, beside);
+        serve_first(alloc, rt, world, beside, seats);
         return;
     }
     let (front, back) = seats.split_at_mut(count / 2);
@@ -36,11 +36,11 @@ pub(crate) fn serve_all<R: Threads + Wait + Sync, I: Source + Send, O: Sink + Se
         &mut ||
             requires { IsSync R.row × IsWorld world.now × All (CanServe world.now.shared.name) front.now }
             ensures { AllZip (IsServed (arc_value world.entry.now.scene.survey)) front.entry.now front.exit.now }
-        { serve_all(alloc, rt, world, front, beside) },
+        { serve_all(alloc, rt, world, beside, front) },
         &mut ||
             requires { IsSync R.row × IsWorld world.now × All (CanServe world.now.shared.name) back.now }
             ensures { AllZip (IsServed (arc_value world.entry.now.scene.survey)) back.entry.now back.exit.now }
-        { serve_all(alloc, rt, world, back, beside) },
+        { serve_all(alloc, rt, world, beside, back) },
     );
 }
 
@@ -49,8 +49,8 @@ fn serve_first<R: Threads + Wait + Sync, I: Source, O: Sink, B: Beside>(
     alloc: Global,
     rt: &R,
     world: &World,
-    seats: &mut [Seat<I, O>],
     beside: &B,
+    seats: &mut [Seat<I, O>],
 )
     requires world { IsWorld world.now }
     requires ready { All (CanServe world.now.shared.name) seats.old }

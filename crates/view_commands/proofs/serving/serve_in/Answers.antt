@@ -1,25 +1,33 @@
-use Rattle.std.proofs.Common.{◌∙◌, inl, inr, subst, sym}
+use Rattle.std.proofs.Common.{◌∙◌, All, List, inl, inr, subst, sym}
+use Rattle.std.specs.Arc.{arc_value}
+use Rattle.std.specs.List.{AllZip}
 use Rattle.std.proofs.lemmas.List.{length-map}
 use Rattle.std.specs.Prelude.{string_bytes}
 use Rattle.view_words.specs.CommandLine.{texts}
 use Rattle.view_commands.specs.declared.status.Status as status
-use Rattle.view_commands.specs.Steps.{RefusesOpening}
+use Rattle.view_commands.specs.Steps.{CanServe, IsServed, RefusesOpening, Seated}
 use Rattle.view_commands.proofs.Begun.{finish-each, serve-each}
 use Rattle.view_commands.proofs.Openings.{refused-shut}
 use Rattle.view_commands.proofs.RunFinished.{run-all}
 use Rattle.view_commands.proofs.serving.serve_in.Goals as goal
 
 pub serve_all-requires-clause-ready : goal.serve_all-requires-clause-ready
-serve_all-requires-clause-ready g c κs within = serve-each g.D.Desk.tells (g.D.Desk.says c.args.desk.now) (g.D.Desk.says c.open_all.new.desk) (texts c.args.words.now) _ 0 _ c.in-Ok.ensures.opened.each
+serve_all-requires-clause-ready g c κs within =
+    subst (λ (l : List Seated). All (CanServe c.args.room.world.shared.name) l) (sym c.as_mut_slice.ensures.value)
+    (serve-each g.D.Desk.tells (g.D.Desk.says c.args.desk.now) (g.D.Desk.says c.open_all.new.desk) (texts c.args.words.now) c.args.room.world.shared.name 0 c.open_all.new.seats.items c.in-Ok.ensures.opened.each)
 
 pub finish_run-requires-clause-seats : goal.finish_run-requires-clause-seats
 finish_run-requires-clause-seats g c κs within =
-    finish-each g.D.Desk.tells (g.D.Desk.says c.args.desk.now) (g.D.Desk.says c.open_all.new.desk) (texts c.args.words.now) _ _ _ _ c.in-Ok.ensures.opened.each c.serve_all.ensures
+    let b = arc_value c.args.room.world.scene.survey in
+    let served = subst (λ (l : List Seated). AllZip (IsServed b) l c.serve_all.new.seats) c.as_mut_slice.ensures.value c.serve_all.ensures in
+    finish-each g.D.Desk.tells (g.D.Desk.says c.args.desk.now) (g.D.Desk.says c.open_all.new.desk) (texts c.args.words.now) c.args.room.world.shared.name b c.open_all.new.seats.items c.serve_all.new.seats c.in-Ok.ensures.opened.each served
 
 pub returns-in-Ok : goal.returns-in-Ok
 returns-in-Ok g c =
-    inr (run-all g.D.Desk.tells _ (g.D.Desk.says c.open_all.new.desk) _ (texts c.args.words.now) _ _ c.args.count _ _ _ _ _ (length-map c.args.words.now string_bytes ∙ c.requires.pairs)
-    c.in-Ok.ensures.count c.in-Ok.ensures.opened c.serve_all.ensures c.requires.root c.in-Ok.ensures.root c.finish_run.ensures)
+    let b = arc_value c.args.room.world.scene.survey in
+    let served = subst (λ (l : List Seated). AllZip (IsServed b) l c.serve_all.new.seats) c.as_mut_slice.ensures.value c.serve_all.ensures in
+    inr (run-all g.D.Desk.tells _ (g.D.Desk.says c.open_all.new.desk) _ (texts c.args.words.now) b c.args.room.world.shared.name c.args.count c.open_all.new.seats.items c.serve_all.new.seats c.open_all.new.root c.args.room.root c.finish_run.result
+    (length-map c.args.words.now string_bytes ∙ c.requires.pairs) c.in-Ok.ensures.count c.in-Ok.ensures.opened served c.requires.root c.in-Ok.ensures.root c.finish_run.ensures)
 
 pub returns-in-Err : goal.returns-in-Err
 returns-in-Err g c =
