@@ -8,34 +8,33 @@ use view_commands::{Status, code, run};
 use view_ends::{HostDesk, NoBeside};
 
 fn main(rt: HostRuntime) -> ExitCode {
-    let status = ended(&rt);
+    let status = match words_and_runtime(&rt) {
+        Ok((words, own)) => {
+            let mut desk = HostDesk::new(own, rt.alloc());
+            run(rt.alloc(), &rt, &words, &mut desk, &NoBeside).status
+        }
+        Err(status) => status,
+    };
     if status != Status::Done {
         let _ = eprintln!(rt; "{status}");
     }
     ExitCode::from(code(&status))
 }
 
-/// Runs the command and answers how it ended. Words that are no text are answered as if the first
-/// were refused.
-fn ended(rt: &HostRuntime) -> Status {
-    let words: Vec<String> = match env::args(rt) {
+/// The words of the command line, and a runtime for the desk. Words that are no text are answered
+/// as if the first were refused.
+fn words_and_runtime(rt: &HostRuntime) -> Result<(Vec<String>, HostRuntime), Status> {
+    let words = match env::args(rt) {
         Ok(args) => match args.skip(1).collect(rt.alloc()) {
             Ok(words) => words,
-            Err(_) => return Status::Memory,
+            Err(_) => return Err(Status::Memory),
         },
-        Err(error) => return unread(&error),
+        Err(error) => return Err(unread(&error)),
     };
-    let Ok(own) = rt.clone() else {
-        return Status::Memory;
-    };
-    run(
-        rt.alloc(),
-        rt,
-        &words,
-        &mut HostDesk::new(own, rt.alloc()),
-        &NoBeside,
-    )
-    .status
+    match rt.clone() {
+        Ok(own) => Ok((words, own)),
+        Err(_) => Err(Status::Memory),
+    }
 }
 
 /// How a run ends whose words were not read.
