@@ -1,6 +1,6 @@
 -- What holds of each item of a list and its place, and of the items of two lists place by place.
 use Rattle.std.proofs.Common.{◌≡◌, ℕ, zero, suc, ◌+◌, ◌<◌, List, [], ◌∷◌, ◌++◌, length, map, refl, sym, ap, subst, arith}
-use Rattle.std.specs.Prelude.{slice_get, Some}
+use Rattle.std.specs.Prelude.{slice_get, slice_index_or, Some}
 use Rattle.std.specs.List.{AllZip, All}
 use Rattle.std.proofs.lemmas.List.Elements.{All-head, All-tail}
 use Rattle.view_commands.specs.Steps.{EachFrom}
@@ -68,3 +68,10 @@ pub map_slice_get : {A B : Type 0} (f : A → B) (xs : List A) (i : ℕ) (x : A)
 map_slice_get f [] i x is = absurd (cc is)
 map_slice_get f (y ∷ ys) zero x is = cc is
 map_slice_get f (y ∷ ys) (suc i) x is = map_slice_get f ys i x is
+
+-- what is so of the items at each place of two lists that are as long
+pub zip-from : {X : Type 0} (R : X → X → Type 0) (xs ys : List X) → length ys ≡ length xs → ((k : ℕ) (d : X) → k < length xs → R (slice_index_or xs k d) (slice_index_or ys k d)) → AllZip R xs ys
+zip-from R [] [] size each = tt
+zip-from R [] (y ∷ ys) size each = absurd (omega (arith, size))
+zip-from R (x ∷ xs) [] size each = absurd (omega (arith, size))
+zip-from R (x ∷ xs) (y ∷ ys) size each = (each 0 x (omega arith), zip-from R xs ys (omega (arith, size)) (λ k d below. each (suc k) d (omega (arith, below))))
