@@ -23,5 +23,5 @@ returns-in-Some g t c =
     let all = c.requires.pairs in
     let pair : HasPair (texts c.args.words.now) c.args.k = omega (arith, length_is, words_are, all) in
     unread-then _ (g.D.Desk.says c.shut.new.self) _ (texts c.args.words.now)
-    (shuts-one _ _ (texts c.args.words.now) c.args.k c.input_name.result.now _ _ _ c.in-Some.seat pair c.input_name.ensures c.into_parts.ensures.input first c.shut.ensures.desk)
+    (shuts-one _ _ (texts c.args.words.now) c.args.k c.input_name.result.now _ _ _ c.in-Some.seat pair c.input_name.ensures c.into_parts-input.ensures.input first c.shut.ensures.desk)
     c.shut_all.ensures
