@@ -80,4 +80,3 @@ kept_file old new name got WriteFault so calm = absurd (calm so)
 kept_file old new name got Memory so calm = absurd (calm so)
 kept_file old new name got ReadFault so calm = absurd so
 kept_file old new name got SessionLimit so calm = absurd so
-

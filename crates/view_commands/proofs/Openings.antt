@@ -217,8 +217,8 @@ unread-one old new ws k taken faults pair untaken faultless shuts =
     no_less other = elim (cases_lt (old.taken other) (new.taken other)) [
       | inl more ↦
           let same : new.taken other ≡ old.taken other = shuts.other_counts other (λ is.
-              let less : new.taken other ≤ old.taken other = subst (λ (at : List ℕ). new.taken at ≤ old.taken at) (sym is) here in
-              absurd (omega (arith, more, less))) in
+          let less : new.taken other ≤ old.taken other = subst (λ (at : List ℕ). new.taken at ≤ old.taken at) (sym is) here in
+          absurd (omega (arith, more, less))) in
           absurd (omega (arith, more, same))
       | inr less ↦ omega (arith, less)
     ]

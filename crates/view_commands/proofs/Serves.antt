@@ -130,15 +130,18 @@ pub serves-memory : (tells : Bool) (old new : Said) (ws : List (List ℕ)) (b : 
     → ended.status ≡ Memory → IsNothing ended.told → ServesLine tells old new ws ended
 serves-memory tells old new ws b n ended line pairs laid read took is nothing =
     let survey = word_at ws SURVEY in
-    let cause : NotOpened old new ws 0 ended.status = subst (λ (s : status.Status). NotOpened old new ws 0 s) (sym is) (omega (arith, pairs), record {
-      files = λ other. refl;
-      unopened = took.rest.unopened;
-      reads = took.rest.reads;
-      writes = took.rest.writes;
-      taken = λ other. refl;
-      unkept = took.rest.unkept;
-      known = took.rest.known;
-    }) in
+    let cause : NotOpened old new ws 0 ended.status = subst (λ (s : status.Status). NotOpened old new ws 0 s) (sym is) (
+      omega (arith, pairs),
+      record {
+        files = λ other. refl;
+        unopened = took.rest.unopened;
+        reads = took.rest.reads;
+        writes = took.rest.writes;
+        taken = λ other. refl;
+        unkept = took.rest.unkept;
+        known = took.rest.known;
+      },
+    ) in
     let files : Empties tells old new ws 0 = record {
       empty = λ tell k below. absurd (omega (arith, below));
       others = λ other away. took.rest.files other;

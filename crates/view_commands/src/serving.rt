@@ -6,7 +6,6 @@ ghost use Rattle.view_ends.specs.Desk.{IsKnown};
 ghost use Rattle.view_words.specs.CommandLine.{IsLine, texts};
 ghost use Rattle.view_commands.specs.Serve.{ServesLine};
 ghost use Rattle.view_commands.specs.Steps.{CanFinish, EachFrom, FinishesRun, IsRoomFor, IsUnwritten, ServesIn};
-
 ghost use Rattle.view_commands.specs.declared.places.TheConstants.{JOURNAL};
 
 use crate::finishing::{Outcomes, finish_all};
@@ -123,7 +122,15 @@ fn serve_in<R: Threads + Wait + Sync, D: Desk, B: Beside>(
         mut seats,
         outcomes,
     } = room;
-    match open_all(alloc, desk, words, count, &world.shared, &mut root, &mut seats) {
+    match open_all(
+        alloc,
+        desk,
+        words,
+        count,
+        &world.shared,
+        &mut root,
+        &mut seats,
+    ) {
         Ok(journal) => {
             serve_all(alloc, rt, &world, beside, seats.as_mut_slice());
             let World { scene: _, shared } = world;
@@ -157,9 +164,23 @@ fn finish_run<D: Desk>(
     requires known { IsKnown (D.says desk.old) (word_at (texts words.now) JOURNAL) }
     ensures { FinishesRun D.tells (D.says desk.old) (D.says desk.new) (texts words.now) seats.items root result }
 {
-    finish_all(desk, words, 0, &shared, &mut root, seats.into_iter(), &mut outcomes);
+    finish_all(
+        desk,
+        words,
+        0,
+        &shared,
+        &mut root,
+        seats.into_iter(),
+        &mut outcomes,
+    );
     let history = shared.close(root).into_history();
-    let journal = write_journal(alloc, desk, journal_name(words), journal, history.as_slice());
+    let journal = write_journal(
+        alloc,
+        desk,
+        journal_name(words),
+        journal,
+        history.as_slice(),
+    );
     let Outcomes { ends, kept } = outcomes;
     Ended {
         status: status_of(&ends, &kept, journal),
