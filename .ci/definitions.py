@@ -5,7 +5,8 @@
     python3 .ci/definitions.py --check    ends with 1 where the file is not what would be written
     python3 .ci/definitions.py --behind   prints the files behind `run`, with their lines
 
-A line counts where it is no blank, no comment and no import.
+What the contract of `run` rests on is found name by name, from `Runs` on. A line of a definition counts where it is
+no blank, comment or import.
 """
 
 import re
@@ -25,7 +26,9 @@ Numbers are whole numbers without bound, a text or a file is the list of its byt
 
 DEFINED = re.compile(r"(?:unfoldable pub|abbrev pub|pub record|pub data)\s+(\S+)")
 FIELD = re.compile(r"\s+pub (\S+) :")
-IMPORT = re.compile(r"\s*(?:pub )?use ([\w.]+)")
+BRINGS = re.compile(r"\s*(?:pub )?use ([\w.]+?)(?:\.\{(.*)\})?(?: as (\S+))?\s*$")
+BEGINS = re.compile(r"(?:(?:unfoldable|abbrev|pub|record|data)\s+)*([^\s:({]+)")
+WORD = re.compile(r"([^\W\d][\w-]*)(?:\.([^\W\d][\w-]*))?")
 
 
 def crates():
@@ -77,26 +80,50 @@ def module_file(module):
     return None
 
 
-def behind(start):
-    """The files that a file of definitions needs, itself among them, with their lines that count."""
-    lines, left = {}, [start]
+def lines_of(path):
+    """The definitions of a file, each with its lines that are no blank, comment or import, and what its imports bring in."""
+    found, names, modules, current = {}, {}, {}, None
+    for line in path.read_text().splitlines():
+        brought = BRINGS.match(line)
+        if brought:
+            module, listed, other = brought.groups()
+            file = module_file(module)
+            if file and listed:
+                for item in listed.split(","):
+                    name, _, alias = item.strip().partition(" as ")
+                    names[(alias or name).strip()] = (file, name.strip())
+            elif file:
+                modules[other or module.split(".")[-1]] = file
+        elif line.strip() and not line.strip().startswith("--"):
+            head = BEGINS.match(line)
+            if head:
+                current = head.group(1)
+            if current:
+                found.setdefault(current, []).append(line)
+    return found, names, modules
+
+
+def behind(path, name):
+    """The files of the definitions that a definition rests on, its own among them, with the lines of those definitions."""
+    files, seen, left = {}, set(), [(path, name)]
     while left:
-        path = left.pop()
-        if path in lines:
+        path, name = left.pop()
+        found, names, modules = files.setdefault(path, None) or lines_of(path)
+        files[path] = (found, names, modules)
+        if (path, name) in seen or name not in found:
             continue
-        text = path.read_text().splitlines()
-        lines[path] = sum(1 for line in text if counts(line))
-        left += [p for p in map(imported, text) if p]
+        seen.add((path, name))
+        for first, second in WORD.findall("\n".join(found[name])):
+            if second and first in modules:
+                left.append((modules[first], second))
+            elif first in names:
+                left.append(names[first])
+            else:
+                left.append((path, first))
+    lines = {}
+    for path, name in seen:
+        lines[path] = lines.get(path, 0) + len(files[path][0][name])
     return lines
-
-
-def counts(line):
-    return bool(line.strip()) and not line.strip().startswith("--") and not IMPORT.match(line)
-
-
-def imported(line):
-    found = IMPORT.match(line)
-    return module_file(found.group(1).rstrip(".")) if found else None
 
 
 def table(rows, heads):
@@ -104,10 +131,10 @@ def table(rows, heads):
 
 
 def document():
-    needed = behind(RUN)
+    needed = behind(RUN, "Runs")
     out = [HEAD]
     out.append(
-        f"What the contract of `run` needs stands in {len(needed)} of these files, marked with a star: "
+        f"What the contract of `run` rests on stands in {len(needed)} of these files, marked with a star: its definitions have "
         f"{sum(needed.values())} lines that are no blank, comment or import.\n"
     )
     for crate in crates():
@@ -131,7 +158,7 @@ def document():
 
 def main():
     if sys.argv[1:] == ["--behind"]:
-        needed = behind(RUN)
+        needed = behind(RUN, "Runs")
         for path, lines in sorted(needed.items()):
             print(lines, path.relative_to(ROOT))
         print(sum(needed.values()), "lines in", len(needed), "files")
