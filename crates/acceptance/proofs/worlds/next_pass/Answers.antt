@@ -5,4 +5,4 @@ use Rattle.sessions.proofs.Later.{HasGivenBack-new}
 use Rattle.acceptance.proofs.worlds.next_pass.Goals as goal
 
 pub returns-clause-given_back : goal.returns-clause-given_back
-returns-clause-given_back g c = HasGivenBack-new c.split.result c.split.ensures.own (ap (λ (p : Passed Entry). p.mine) c.split.ensures.pass)
+returns-clause-given_back c = HasGivenBack-new c.split.result c.split.ensures.own (ap (λ (p : Passed Entry). p.mine) c.split.ensures.pass)
