@@ -1,7 +1,7 @@
 use crate::desks::{File, Shelf, command, fill, holds};
 use crate::drawing::CLASS_6;
 use crate::host::Host;
-use crate::leaving::{Call, plan};
+use crate::leaving::Call;
 use crate::plain::{ONE, plain};
 use crate::same::same;
 use crate::serving::{SERVE, command_ended, entries_are, joined, session_ended, then_file};
@@ -42,7 +42,9 @@ fn prepare(alloc: Global, desk: &mut MemDesk, script: &[u8], call: Call) -> Resu
         ("j", BEFORE),
     ];
     fill(alloc, desk, &files)?;
-    plan(desk, &[call])
+    let (name, call, at) = call;
+    desk.fail(name, call, at)?;
+    Ok(())
 }
 
 /// Serves a script, with one call that is to fail, which has to leave these files, and the output or
