@@ -35,13 +35,9 @@ type Talk<'a> = (&'a [u8], &'a [u8]);
 /// Puts the files on a desk, and plans the call that is to fail.
 fn prepare(alloc: Global, desk: &mut MemDesk, script: &[u8], call: Call) -> Result<(), Fail> {
     let survey = plain(alloc, &ONE)?;
-    let files: [File; 4] = [
-        ("a.las", survey.as_slice()),
-        ("i", script),
-        ("o", BEFORE),
-        ("j", BEFORE),
-    ];
-    fill(alloc, desk, &files)?;
+    fill(alloc, desk, &[("a.las", survey.as_slice())])?;
+    fill(alloc, desk, &[("i", script)])?;
+    fill(alloc, desk, &[("o", BEFORE), ("j", BEFORE)])?;
     let (name, call, at) = call;
     desk.fail(name, call, at)?;
     Ok(())
