@@ -1,4 +1,4 @@
-use crate::desks::{File, Shelf, command, fill, holds};
+use crate::desks::{Shelf, command, fill, holds};
 use crate::host::Host;
 use crate::leaving::{Call, plan, refused};
 use crate::plain::{ONE, plain};
@@ -41,15 +41,14 @@ fn prepare(
     calls: &[Call],
 ) -> Result<(), Fail> {
     let survey = plain(alloc, &ONE)?;
-    let files: [File; 6] = [
-        ("a.las", survey.as_slice()),
-        ("i1", scripts[0]),
-        ("i2", scripts[1]),
-        ("o1", BEFORE),
-        ("o2", BEFORE),
-        ("j", BEFORE),
-    ];
-    fill(alloc, desk, &files)?;
+    let [first, second] = scripts;
+    fill(alloc, desk, &[("a.las", survey.as_slice())])?;
+    fill(alloc, desk, &[("i1", first), ("i2", second)])?;
+    fill(
+        alloc,
+        desk,
+        &[("o1", BEFORE), ("o2", BEFORE), ("j", BEFORE)],
+    )?;
     plan(desk, calls)
 }
 
