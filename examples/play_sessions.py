@@ -78,7 +78,6 @@ class Player:
         return first.decode().strip()
 
     def close(self):
-        self.to.close()
         self.files[1].write(self.come.read())
         for file in (self.come, *self.files):
             file.close()
@@ -113,6 +112,9 @@ def main():
                     player.open(program)
                 for name, line in play:
                     print(name, players[name].ask(line), flush=True)
+                # The program keeps its outputs once every input has ended.
+                for player in players.values():
+                    player.to.close()
                 for player in players.values():
                     player.close()
             except BaseException:
