@@ -8,11 +8,9 @@ from pathlib import Path
 
 ROOT = Path(__file__).resolve().parent.parent
 
-# A definition: what stands above it, its lines as they are, and what its file imports. `fields` are those of a record.
-Definition = namedtuple("Definition", "crate path name sentence text fields")
+# A definition: the comment above it as a sentence, its lines with that comment and without, and the fields of a record.
+Definition = namedtuple("Definition", "crate path name sentence whole text fields")
 Field = namedtuple("Field", "name sentence text")
-# What a file of definitions brings in: names, and modules by their last word or their alias.
-Imports = namedtuple("Imports", "names modules")
 
 DEFINED = re.compile(r"(?:unfoldable pub|abbrev pub|pub record|pub data)\s+(\S+)")
 FIELD = re.compile(r"  pub (\S+) :")
@@ -68,7 +66,8 @@ def definitions_of(path):
         if defined:
             last = told(comment, "--") or last
             crate = path.relative_to(ROOT / "crates").parts[0]
-            found[defined.group(1)] = Definition(crate, path, defined.group(1), last, "\n".join(body), fields_of(body[1:]))
+            text = "\n".join(body)
+            found[defined.group(1)] = Definition(crate, path, defined.group(1), last, "\n".join(lines), text, fields_of(body[1:]))
         elif not found and not head:
             head = told(comment, "--")
     return head, found
@@ -161,7 +160,8 @@ def declared(crate, name):
             if line.rstrip().endswith("{"):
                 while lines[last] != "}":
                     last += 1
-            return Definition(crate, path, name, told(comment, "///"), "\n".join(lines[number : last + 1]), [])
+            text = lines[number : last + 1]
+            return Definition(crate, path, name, told(comment, "///"), "\n".join(comment + text), "\n".join(text), [])
     return None
 
 
@@ -227,9 +227,13 @@ def named_in(definition):
     """The definitions that one names, in order, and the names that it takes from the library."""
     if definition.path.suffix != ".antt":
         return [seen for _, seen in types_in(definition)], set()
-    brought, own = imports_of(definition.path), definitions_of(definition.path)[1]
+    brought, own = imports_of(definition.path), {}
+    # What stands later in the file can't be meant: it is what the definition binds by that name.
+    for one in definitions_of(definition.path)[1].values():
+        if one == definition:
+            break
+        own[one.name] = one
     found, library = [], set()
-    # The fields of a record and what it binds are no citations of definitions by the same name.
     for first, second in WORD.findall(code_of(definition.text)):
         if second and first in brought.modules:
             found.append(found_at(brought.modules[first], second))
