@@ -3,10 +3,10 @@
 
     python3 .ci/check_times.py LOG                      runs `rt ci`, its output in LOG
     python3 .ci/check_times.py LOG rt ci view_base      runs another command of rt
+    python3 .ci/check_times.py --page LOG ..            writes the table into docs/PROVING.md too, if the command passed
 
 Run it at the top of a clean clone, with nothing kept (`rt ci --anew`) where the whole time is asked for.
-The table comes on standard output and at the end of LOG, as Markdown, ready for docs/PROVING.md. The
-status is that of the command. While the command runs, this looks four times a second at its processes
+The table comes on standard output and at the end of LOG, as Markdown. The status is that of the command. While the command runs, this looks four times a second at its processes
 in /proc (so it needs Linux): a check's words name its crate, a check of tests has the word `--test`, and
 an edit is checked in a folder rt-edit-*. What ends between two looks is told as not attributed.
 """
@@ -17,6 +17,8 @@ import resource
 import subprocess
 import sys
 import time
+
+from sources import between
 
 ROOT = os.path.dirname(os.path.dirname(os.path.realpath(__file__)))
 TICKS = os.sysconf("SC_CLK_TCK")
@@ -105,22 +107,39 @@ def table(seen, total, wall):
     return "\n".join(lines) + "\n"
 
 
+def put_into_page(text):
+    """Writes the table into docs/PROVING.md, between its marks."""
+    name = os.path.join(ROOT, "docs", "PROVING.md")
+    with open(name, encoding="utf-8") as page:
+        whole = between(page.read(), "times", text)
+    with open(name, "w", encoding="utf-8") as page:
+        page.write(whole)
+
+
 def main():
-    if len(sys.argv) < 2 or sys.argv[1].startswith("-"):
+    words = sys.argv[1:]
+    page = words[:1] == ["--page"]
+    words = words[1:] if page else words
+    if words[:1] in (["--help"], ["-h"]):
+        print(__doc__.strip())
+        return
+    if not words or words[0].startswith("-"):
         sys.exit(__doc__)
-    command = sys.argv[2:] or ["rt", "ci"]
+    command = words[1:] or ["rt", "ci"]
     began = time.monotonic()
     seen = {}
-    with open(sys.argv[1], "w", encoding="utf-8") as log:
+    with open(words[0], "w", encoding="utf-8") as log:
         child = subprocess.Popen(command, cwd=ROOT, stdout=log, stderr=subprocess.STDOUT)
         while child.poll() is None:
             look(child.pid, seen)
             time.sleep(SECONDS)
     used = resource.getrusage(resource.RUSAGE_CHILDREN)
     text = table(seen, used.ru_utime + used.ru_stime, time.monotonic() - began)
-    with open(sys.argv[1], "a", encoding="utf-8") as log:
+    with open(words[0], "a", encoding="utf-8") as log:
         log.write(text)
     sys.stdout.write(text)
+    if page and child.returncode == 0:
+        put_into_page(text)
     sys.exit(child.returncode if child.returncode >= 0 else 1)
 
 

@@ -1,172 +1,119 @@
 #!/usr/bin/env python3
-"""Writes docs/DEFINITIONS.md: every definition of crates/*/specs/, by its name and the comment above it.
+"""Writes docs/DEFINITIONS.md: every definition of crates/*/specs/ that a public clause rests on.
 
-    python3 .ci/definitions.py            writes the file
-    python3 .ci/definitions.py --check    ends with 1 where the file is not what would be written
+    python3 .ci/definitions.py            writes the page
+    python3 .ci/definitions.py --check    ends with 1 where the page is not what would be written
     python3 .ci/definitions.py --behind   prints the files behind `run`, with their lines
 
-What the contract of `run` rests on is found name by name, from `Runs` on. A line of a definition counts where it is
-no blank, comment or import.
+Of each stand its name, the comment above it, and the public clauses that cite it; where none does, the
+definitions that do. A line of a definition counts where it is no blank, comment or import.
 """
 
-import re
 import sys
-from pathlib import Path
 
-ROOT = Path(__file__).resolve().parent.parent
-TARGET = ROOT / "docs" / "DEFINITIONS.md"
-RUN = ROOT / "crates" / "view_commands" / "specs" / "Run.antt"
+from clauses import public_clauses
+from sources import ROOT, behind, definition, definitions_of, help_wanted, lines_in, named_in, settle, spec_files, stands_on
+
+# Of the definitions that name one so many are told.
+MOST = 4
 
 HEAD = """# Definitions
 
-Every definition of the folders `crates/*/specs/`, crate by crate from the bottom up: its name, and what it is, as the comment above it says. `.ci/definitions.py` makes this file from those comments. Contracts cite these names; what only a proof needs stands in `proofs/` and isn't listed.
+Every definition that a public clause rests on, crate by crate from the bottom up: its name, what it is, and which clauses of public functions cite it, as `function` (name of the clause, if it has one). Where none does, the definitions stand there that name it, and through which clauses rest on it. The {others} other definitions of `crates/*/specs/` serve inner functions, and what types keep.
 
-Numbers are whole numbers without bound, a text or a file is the list of its bytes, and places count from 0 where nothing else is said. What the type `Option` holds is called *none* where it is empty.
+`.ci/definitions.py` makes this page from the sources: each sentence is the comment above the definition. Numbers are whole numbers without bound, a text or a file is the list of its bytes, and places count from 0 where nothing else is said. What an `Option` holds is called *none* where it is empty.
+
+What the contract of `run` rests on is marked with a star: {count} definitions of {lines} lines in {files} files. [HEADLINE.md](HEADLINE.md) shows those of its `serve` whole, in the order in which they are read.
 """
 
-DEFINED = re.compile(r"(?:unfoldable pub|abbrev pub|pub record|pub data)\s+(\S+)")
-FIELD = re.compile(r"\s+pub (\S+) :")
-BRINGS = re.compile(r"\s*(?:pub )?use ([\w.]+?)(?:\.\{(.*)\})?(?: as (\S+))?\s*$")
-BEGINS = re.compile(r"(?:(?:unfoldable|abbrev|pub|record|data)\s+)*([^\s:({]+)")
-WORD = re.compile(r"([^\W\d][\w-]*)(?:\.([^\W\d][\w-]*))?")
+
+def key(one):
+    return one.path, one.name
 
 
-def crates():
-    for line in (ROOT / "crates.txt").read_text().splitlines():
-        name = line.split("#")[0].split(":")[0].split()
-        if name:
-            yield name[0]
+def by_definition():
+    """The clauses that cite a definition, by crate and function."""
+    found = {}
+    for clause in public_clauses():
+        for place in clause.cites:
+            names = found.setdefault(place, {}).setdefault((clause.crate, clause.function), [])
+            if clause.name not in names:
+                names.append(clause.name)
+    return found
 
 
-def spec_files(crate):
-    folder = ROOT / "crates" / crate / "specs"
-    return sorted(p for p in folder.glob("**/*.antt") if p.name != "Lib.antt")
+def citations(functions):
+    """Functions with the clauses of theirs that cite something, crate by crate."""
+    crates = {}
+    for (crate, function), names in functions.items():
+        named = ", ".join(name for name in names if name)
+        crates.setdefault(crate, []).append(f"`{function}`" + (f" ({named})" if named else ""))
+    return "; ".join(f"{crate}: {', '.join(listed)}" for crate, listed in crates.items())
 
 
-def sentence(comment):
-    """A comment of the sources, as a cell of a table."""
-    text = " ".join(line.strip()[2:].strip() for line in comment).replace("|", "\\|")
-    return text[:1].upper() + text[1:]
+def within(names):
+    """The first of the definitions that name one."""
+    if not names:
+        return "what contracts see of a type"
+    listed = ", ".join(f"`{name}`" for name in names[:MOST])
+    return f"in {listed}" + (f" and {len(names) - MOST} more" if len(names) > MOST else "")
 
 
-def entries(path):
-    """The comment at the head of a file, and its definitions: name, comment, and commented fields."""
-    head, found, comment, before = [], [], [], True
-    for line in path.read_text().splitlines():
-        if line.strip().startswith("--"):
-            comment.append(line)
-            continue
-        defined = DEFINED.match(line)
-        field = FIELD.match(line)
-        if defined:
-            found.append((defined.group(1), sentence(comment), []))
-            before = False
-        elif field and comment and found:
-            found[-1][2].append((field.group(1), sentence(comment)))
-        elif before and not head and line.startswith("use"):
-            head = comment
-        comment = []
-    return sentence(head), found
+def every():
+    return [one for crate in stands_on() for path in spec_files(crate) for one in definitions_of(path)[1].values()]
 
 
-def module_file(module):
-    parts = module.split(".")
-    if len(parts) < 4 or parts[0] != "Rattle" or parts[2] != "specs" or parts[3] == "declared":
-        return None
-    for end in range(len(parts), 3, -1):
-        path = ROOT / "crates" / parts[1] / "specs" / ("/".join(parts[3:end]) + ".antt")
-        if path.exists():
-            return path
-    return None
+def behind_run():
+    found, _ = behind([definition("view_commands", "Run", "Runs")])
+    return [one for one in found if one.path.suffix == ".antt"]
 
 
-def lines_of(path):
-    """The definitions of a file, each with its lines that are no blank, comment or import, and what its imports bring in."""
-    found, names, modules, current = {}, {}, {}, None
-    for line in path.read_text().splitlines():
-        brought = BRINGS.match(line)
-        if brought:
-            module, listed, other = brought.groups()
-            file = module_file(module)
-            if file and listed:
-                for item in listed.split(","):
-                    name, _, alias = item.strip().partition(" as ")
-                    names[(alias or name).strip()] = (file, name.strip())
-            elif file:
-                modules[other or module.split(".")[-1]] = file
-        elif line.strip() and not line.strip().startswith("--"):
-            head = BEGINS.match(line)
-            if head:
-                current = head.group(1)
-            if current:
-                found.setdefault(current, []).append(line)
-    return found, names, modules
-
-
-def behind(path, name):
-    """The files of the definitions that a definition rests on, its own among them, with the lines of those definitions."""
-    files, seen, left = {}, set(), [(path, name)]
-    while left:
-        path, name = left.pop()
-        found, names, modules = files.setdefault(path, None) or lines_of(path)
-        files[path] = (found, names, modules)
-        if (path, name) in seen or name not in found:
-            continue
-        seen.add((path, name))
-        for first, second in WORD.findall("\n".join(found[name])):
-            if second and first in modules:
-                left.append((modules[first], second))
-            elif first in names:
-                left.append(names[first])
-            else:
-                left.append((path, first))
-    lines = {}
-    for path, name in seen:
-        lines[path] = lines.get(path, 0) + len(files[path][0][name])
-    return lines
-
-
-def table(rows, heads):
-    return [f"| {heads[0]} | {heads[1]} |", "|---|---|"] + [f"| `{name}` | {text} |" for name, text in rows] + [""]
-
-
-def document():
-    needed = behind(RUN, "Runs")
-    out = [HEAD]
-    out.append(
-        f"What the contract of `run` rests on stands in {len(needed)} of these files, marked with a star: its definitions have "
-        f"{sum(needed.values())} lines that are no blank, comment or import.\n"
-    )
-    for crate in crates():
-        files = spec_files(crate)
-        if not files:
-            continue
-        out.append(f"## {crate}\n")
-        for path in files:
-            head, found = entries(path)
-            star = " \\*" if path in needed else ""
-            out.append(f"### {path.relative_to(ROOT)}{star}\n")
-            if head:
-                out.append(head + "\n")
-            out.append("\n".join(table([(name, text) for name, text, _ in found], ("Name", "What it is"))))
-            for name, _, fields in found:
-                if fields:
-                    out.append(f"Fields of `{name}`:\n")
-                    out.append("\n".join(table(fields, ("Field", "What it says"))))
+def page():
+    cited, run = by_definition(), behind_run()
+    starred, all_of_them = {key(one) for one in run}, every()
+    found, _ = behind([one for one in all_of_them if key(one) in cited])
+    shown, users = {key(one) for one in found}, {}
+    for one in all_of_them:
+        for other in named_in(one)[0]:
+            if key(one) in shown and one.name not in users.setdefault(key(other), []):
+                users[key(other)].append(one.name)
+    out = [
+        HEAD.format(
+            others=sum(key(one) not in shown for one in all_of_them),
+            count=len(run),
+            lines=sum(map(lines_in, run)),
+            files=len({one.path for one in run}),
+        )
+    ]
+    for crate in stands_on():
+        files = [(path, [one for one in definitions_of(path)[1].values() if key(one) in shown]) for path in spec_files(crate)]
+        files = [(path, needed) for path, needed in files if needed]
+        if files:
+            out.append(f"## {crate}\n")
+        for path, needed in files:
+            head = definitions_of(path)[0]
+            out.append(f"### {path.relative_to(ROOT)}\n" + (f"\n{head}\n" if head else ""))
+            out.append("| Name | What it is | Cited by |\n|---|---|---|")
+            for one in needed:
+                by = citations(cited.get(key(one), {})) or within(users.get(key(one), []))
+                star = " \\*" if key(one) in starred else ""
+                cells = [f"`{one.name}`{star}", one.sentence, by]
+                out.append("| " + " | ".join(cell.replace("|", "\\|") for cell in cells) + " |")
+            out.append("")
     return "\n".join(out)
 
 
 def main():
+    help_wanted(__doc__)
     if sys.argv[1:] == ["--behind"]:
-        needed = behind(RUN, "Runs")
-        for path, lines in sorted(needed.items()):
+        files = {}
+        for one in behind_run():
+            files[one.path] = files.get(one.path, 0) + lines_in(one)
+        for path, lines in sorted(files.items()):
             print(lines, path.relative_to(ROOT))
-        print(sum(needed.values()), "lines in", len(needed), "files")
-    elif sys.argv[1:] == ["--check"]:
-        if TARGET.read_text() != document():
-            sys.exit("docs/DEFINITIONS.md is not what .ci/definitions.py writes")
+        print(sum(files.values()), "lines in", len(files), "files")
     else:
-        TARGET.write_text(document())
+        settle(sys.argv[1:], "definitions.py", "docs/DEFINITIONS.md", page())
 
 
 main()
