@@ -1,0 +1,110 @@
+#!/usr/bin/env python3
+"""Writes into docs/ARCHITECTURE.md what the sources say: the drawing of the layers, the kit crates, and who uses each crate.
+
+    python3 .ci/map.py           writes them
+    python3 .ci/map.py --check   ends with 1 where the page is not what would be written
+
+A layer is one above the highest crate that a crate lists in crates.txt. Behind each crate of the drawing
+stands what goes through it: a `view`, by the letter v, and an `edit`, by e; these are the crates in the two
+drawings of the ways, which are written by hand. A crate is used by those whose code has a `use` line of it, tests
+aside; one without code by those whose definitions import it. Each crate has to have one paragraph, which begins
+with its name, and a name in it or in the drawings that looks like a crate's has to be one.
+"""
+
+import re
+import sys
+
+from sources import ROOT, between, help_wanted, settle, source_files, stands_on
+
+PAGE = "docs/ARCHITECTURE.md"
+USED = " *Used by "
+# What nothing stands on: the program and its tests.
+ON_TOP = {"view_main", "acceptance"}
+# So many users of a crate are named.
+MOST = 12
+KIT = {"atomic_table", "byteorder", "itoa", "thiserror"}
+
+
+def layers(below):
+    """Each crate's layer, from 1."""
+    found = {}
+    for crate, listed in below.items():
+        found[crate] = 1 + max((found[other] for other in listed if other in found), default=0)
+    return found
+
+
+def way(page, name):
+    """The crates on a way that the page draws."""
+    drawn = page.partition(f"<!-- way of {name} -->\n")[2].partition("<!-- end of way -->\n")[0]
+    return set(re.findall(r"\b[a-z]+(?:_[a-z]+)+\b|\bsessions\b", drawn))
+
+
+def drawing(page, below):
+    """The layers from the top, each with its crates and what goes through them."""
+    ways = {"v": way(page, "view"), "e": way(page, "edit")}
+    wrong = sorted(name for names in ways.values() for name in names if name not in below)
+    if wrong:
+        sys.exit(f"{PAGE}: a way goes through {', '.join(wrong)}, which is no crate")
+    found, out = layers(below), []
+    for layer in range(max(found.values()), 0, -1):
+        here = [crate for crate in below if found[crate] == layer]
+        marked = [" ".join([crate] + ["".join(mark for mark, names in ways.items() if crate in names)]).strip() for crate in here]
+        out.append(f"{layer:>2}  " + "".join(f"{text:<22}" for text in marked).rstrip())
+    return "```text\n" + "\n".join(out) + "\n```\n"
+
+
+def kit(below):
+    """Which crates list each crate of the kit."""
+    listed = [f"`{name}` by {named([crate for crate, others in below.items() if name in others])}" for name in sorted(KIT)]
+    return "Of the kit they list " + "; ".join(listed) + ".\n"
+
+
+def named(crates):
+    quoted = [f"`{crate}`" for crate in crates]
+    return ", ".join(quoted[:-1]) + (" and " if quoted[1:] else "") + quoted[-1]
+
+
+def used_by(crates):
+    if len(crates) > MOST:
+        return f"{len(crates)} crates above it"
+    return named(crates) if crates else "no crate"
+
+
+def users(below):
+    """Who uses each crate."""
+    found = {crate: set() for crate in below}
+    for crate in below:
+        code = [path for path in source_files(crate) if "tests" not in path.stem and "tests" not in path.parent.name]
+        used = {name for path in code for name in re.findall(r"^\s*(?:pub )?use (\w+)::", path.read_text(), re.M)}
+        specs = (ROOT / "crates" / crate / "specs").glob("**/*.antt")
+        meant = {name for path in specs for name in re.findall(r"^use Rattle\.(\w+)\.specs", path.read_text(), re.M)}
+        for other in below:
+            has_code = any("fn " in path.read_text() for path in source_files(other))
+            if other != crate and other in (used if has_code else meant):
+                found[other].add(crate)
+    return {crate: [other for other in below if other in names] for crate, names in found.items()}
+
+
+def with_users(page, below):
+    """The page with who uses each crate at the end of the crate's paragraph."""
+    lines, by, seen = page.split("\n"), users(below), set()
+    for number, line in enumerate(lines):
+        crate = re.match(r"\*\*(\w+)\*\* ", line)
+        if crate and crate.group(1) in by:
+            name = crate.group(1)
+            lines[number] = line.partition(USED)[0].rstrip() + ("" if name in ON_TOP else f"{USED}{used_by(by[name])}.*")
+            seen.add(name)
+    if set(by) - seen:
+        sys.exit(f"{PAGE} has no paragraph of {', '.join(sorted(set(by) - seen))}")
+    return "\n".join(lines)
+
+
+def main():
+    help_wanted(__doc__)
+    page, below = (ROOT / PAGE).read_text(), stands_on()
+    page = between(page, "layers", drawing(page, below))
+    page = between(page, "kit crates", kit(below))
+    settle(sys.argv[1:], "map.py", PAGE, with_users(page, below))
+
+
+main()
