@@ -212,7 +212,7 @@ class Words(Launcher):
     def test_a_word_that_does_not_fit(self):
         for words, at, said in (
             (["frob"], 0, "'frob': no command; the commands are draw, info and serve"),
-            (["draw", "a", "b", "65"], 3, "'65', where WORKERS is wanted: a number from 1 to 64; it changes nothing yet"),
+            (["draw", "a", "b", "65"], 3, "'65', where WORKERS is wanted: a number from 1 to 64: how many draw a picture side by side"),
             (["draw", "a", "b", *CAMERA, "x y"], 26, "'x y': the words of draw end before it"),
             (["draw", "a", "a", *CAMERA], 2, "'a', as word 1 is"),
             (["serve", "a", "1", "-", "i", "-"], 5, "'-', as word 3 is"),
