@@ -1,5 +1,5 @@
 #!/usr/bin/env python3
-"""Runs every command that docs/GUIDE.md shows, in order, and compares what it prints.
+"""Runs every command that docs/GUIDE.md and then README.md show, in order, and compares what it prints.
 
     python3 examples/run_guide.py
 
@@ -21,6 +21,7 @@ import threading
 from script_ends import Words
 
 ROOT = os.path.dirname(os.path.dirname(os.path.realpath(__file__)))
+PAGES = (os.path.join("docs", "GUIDE.md"), "README.md")
 # Stands behind what a command prints in a terminal.
 MARK = "the command has ended"
 # Seconds that a command in a terminal may take.
@@ -85,8 +86,10 @@ def alone(folder, command):
 
 def main():
     Words(__doc__).parse_args()
-    with open(os.path.join(ROOT, "docs", "GUIDE.md"), encoding="utf-8") as guide:
-        commands = steps(guide.read())
+    commands = []
+    for name in PAGES:
+        with open(os.path.join(ROOT, name), encoding="utf-8") as page:
+            commands += steps(page.read())
     # Without words it is refused at once, with 2.
     built = subprocess.run([os.path.join(ROOT, "hidrevca")], stdout=subprocess.DEVNULL, stderr=subprocess.PIPE)
     if built.returncode != 2:
@@ -105,7 +108,7 @@ def main():
                 print(f"$ {command}\nwanted: {expected}\nprinted: {printed}")
         for terminal in terminals.values():
             terminal.close()
-    print(f"{len(commands) - wrong} of {len(commands)} commands of the guide print what it shows")
+    print(f"{len(commands) - wrong} of {len(commands)} commands of the guide and the README print what they show")
     sys.exit(1 if wrong or not commands else 0)
 
 
