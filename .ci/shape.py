@@ -4,7 +4,8 @@
 - no chain of crates is longer than eight, where a crate of definitions alone, the program's `main` and
   the crate of tests across crates are not counted;
 - no source file has more than 400 lines;
-- no clause of a public function has a line above 200 characters.
+- no clause of a public function has a line above 200 characters;
+- no page of docs/ nor README.md has a paragraph that is wrapped by hand.
 
     python3 .ci/shape.py          prints what is wrong, and nothing where all holds
     python3 .ci/shape.py --chain  prints a longest chain
@@ -12,22 +13,14 @@
 
 import re
 import sys
-from pathlib import Path
 
-ROOT = Path(__file__).resolve().parent.parent
+from sources import ROOT, help_wanted, stands_on
+
 UNCOUNTED = {"view_meaning", "view_main", "acceptance"}
 CHAIN, LINES, CLAUSE = 8, 400, 200
+# What a line of a page begins with that is no further line of a paragraph.
+NO_PROSE = ("|", "#", "-", "```", "    ", "<!--", ">", "1", "2", "3", "4", "5", "6", "7", "8", "9")
 FUNCTION = re.compile(r"\s*(pub(?:\(\w+\))? )?(?:const )?(?:unsafe )?fn ")
-
-
-def stands_on():
-    found = {}
-    for line in (ROOT / "crates.txt").read_text().splitlines():
-        line = line.split("#")[0].strip()
-        if line:
-            name, below = line.split(":")
-            found[name.split()[0]] = below.split()
-    return found
 
 
 def longest(below, crate, known):
@@ -49,7 +42,20 @@ def long_clauses(text):
             yield number
 
 
+def wrapped(text):
+    """The numbers of the lines of a page behind which its paragraph goes on."""
+    outside, last = True, ""
+    for number, line in enumerate(text.splitlines()):
+        if line.startswith("```"):
+            outside = not outside
+        prose = outside and line and not line.startswith(NO_PROSE)
+        if prose and last:
+            yield number
+        last = line if outside and not line.startswith(("|", "#", "```", "    ", "<!--")) else ""
+
+
 def main():
+    help_wanted(__doc__)
     below, known = stands_on(), {}
     chain = max((longest(below, crate, known) for crate in below), key=len)
     if sys.argv[1:] == ["--chain"]:
@@ -63,6 +69,8 @@ def main():
         if len(text.splitlines()) > LINES:
             wrong.append(f"{name} has {len(text.splitlines())} lines")
         wrong += [f"{name}:{number}: a clause above {CLAUSE} characters" for number in long_clauses(text)]
+    for path in [ROOT / "README.md", *sorted((ROOT / "docs").glob("**/*.md"))]:
+        wrong += [f"{path.relative_to(ROOT)}:{number}: a paragraph wrapped by hand" for number in wrapped(path.read_text())]
     if wrong:
         sys.exit("\n".join(wrong))
 
