@@ -25,6 +25,7 @@ SENTENCE = (
 # The records whose fields say the sentence, by crate and file.
 RECORDS = {
     "ServesLine": ("view_commands", "Serve"),
+    "IsReadWhole": ("view_commands", "Texts"),
     "NoSession": ("view_commands", "Serve"),
     "RunsSessions": ("view_commands", "Serve"),
     "RunsSession": ("view_commands", "Serve"),
@@ -41,7 +42,15 @@ PARTS = [
         "For every LAS file,",
         "`b` is the list of the bytes that SURVEY's file had at the start, at most 2^30 of them, and it is laid out as a survey (`IsLaid`). "
         "Nothing else is asked of it. Where no such file came, no session runs, and the cause is told (`NoSession`, below).",
-        ["ServesLine.outcome"],
+        [
+            "ServesLine.outcome",
+            "IsReadWhole.few",
+            "IsReadWhole.all",
+            "IsReadWhole.there",
+            "IsReadWhole.counted",
+            "IsReadWhole.opened",
+            "IsReadWhole.unfailed",
+        ],
     ),
     (
         "session scripts,",
@@ -105,7 +114,12 @@ PARTS = [
             "Served.makes",
         ],
     ),
-    ("never older than that session had seen;", "A mark is the newest version when the entry was made, and marks don't fall.", ["Served.rising", "Served.newer"]),
+    (
+        "never older than that session had seen;",
+        "A mark is the newest version when the entry was made, and marks don't fall. A session of `run` begins with the empty history, so "
+        "`begins` and `newer` add nothing there; they are for callers of `serve_session` whose pass has seen more.",
+        ["Served.rising", "Served.newer"],
+    ),
     ("a session stops early only for want of memory,", "Of the reasons of an end `Memory` is the only one without a cause.", []),
     ("a stated limit", "`SessionLimit` comes exactly where byte 2^20 + 1 of the input came.", ["Processed.limit", "Processed.few", "RunsSession.taken"]),
     (
@@ -116,7 +130,8 @@ PARTS = [
 ]
 BESIDE = (
     "The record says more than the sentence: what the status is, that no other file changes, what holds where no session ran, and that "
-    "the run is done, or memory was wanted, where nothing outside failed.",
+    "the run is done, or memory was wanted, where nothing outside failed. By the law `done-whole` of crates/view_commands/proofs/Settled.antt "
+    "a run that is done has every session finished and its input read to its end.",
     ["RunsSessions.status", "RunsSessions.files", "NoSession.nothing", "NoSession.untaken", "NoSession.cause", "ServesLine.settled"],
 )
 
