@@ -8,7 +8,9 @@ A layer is one above the highest crate that a crate lists in crates.txt. Behind 
 stands what goes through it: a `view`, by the letter v, and an `edit`, by e; these are the crates in the two
 drawings of the ways, which are written by hand. A crate is used by those whose code has a `use` line of it, tests
 aside; one without code by those whose definitions import it. Each crate has to have one paragraph, which begins
-with its name, and a name in it or in the drawings that looks like a crate's has to be one.
+with its name; a name in the drawings that looks like a crate's has to be one; and a name in brackets of
+what a crate promises has to be that of a clause, a function or a definition there or in view_meaning. So has
+each name by which README.md says that something is proved, in some crate.
 """
 
 import re
@@ -99,9 +101,44 @@ def with_users(page, below):
     return "\n".join(lines)
 
 
+def named_there(crate):
+    """The names of a crate's clauses, functions and definitions with their fields, and of the definitions below."""
+    sources = "\n".join(path.read_text() for path in source_files(crate))
+    specs = "\n".join(path.read_text() for name in (crate, "view_meaning") for path in (ROOT / "crates" / name / "specs").glob("**/*.antt"))
+    found = re.findall(r"\b(?:ensures|requires)\*? (\w+) \{|\bfn (\w+)", sources) + re.findall(r"\bpub (?:record |data )?(\w+)()", specs)
+    return {name for pair in found for name in pair}
+
+
+def promises(page):
+    """Ends where a crate is told to promise by a name that it doesn't have."""
+    crate, wrong = None, []
+    for line in page.splitlines():
+        begun = re.match(r"\*\*(\w+)\*\* ", line)
+        crate = begun.group(1) if begun else crate
+        if line.startswith("Promised") and crate:
+            listed = " ".join(re.findall(r"\((?:[^()`]|`[^`]*`)*\)", line))
+            known = named_there(crate)
+            wrong += [f"{crate}: {name}" for name in re.findall(r"`(\w+)`", listed) if name not in known]
+    if wrong:
+        sys.exit(f"{PAGE} names what isn't there: {', '.join(wrong)}")
+
+
+def claims():
+    """Ends where README.md says that something is proved by a name that no crate has."""
+    proved = (ROOT / "README.md").read_text().partition("## What is proved\n")[2].partition("\n## ")[0]
+    known = {name for crate in stands_on() for name in named_there(crate)} | set(stands_on())
+    types = "\n".join(path.read_text() for crate in stands_on() for path in source_files(crate))
+    known |= set(re.findall(r"\b(?:struct|enum|trait) (\w+)", types))
+    wrong = [name for name in re.findall(r"`(\w+)`", proved) if name not in known]
+    if wrong:
+        sys.exit(f"README.md names what isn't there: {', '.join(wrong)}")
+
+
 def main():
     help_wanted(__doc__)
     page, below = (ROOT / PAGE).read_text(), stands_on()
+    promises(page)
+    claims()
     page = between(page, "layers", drawing(page, below))
     page = between(page, "kit crates", kit(below))
     settle(sys.argv[1:], "map.py", PAGE, with_users(page, below))
