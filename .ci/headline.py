@@ -77,7 +77,7 @@ PARTS = [
     (
         "is its commands'",
         "The items, commands and refused lines, are those of the script, as far as the session came; and no other list of as many would do. "
-        "So a line can't be left out, invented or taken twice.",
+        "So a line can't be left out, invented or taken twice. There is one mark for each item (`Makes`, below).",
         [
             "RunsSession.served",
             "Served.input",
