@@ -70,7 +70,7 @@ WRITERS = (
     "replies.py good.replies 1 -",
 )
 # These have no input but the repository, or none at all.
-WITHOUT = ("run_guide.py", "terrain.py", "try_program.py", "try_sessions.py", "try_versions.py", "try_views.py")
+WITHOUT = ("run_guide.py", "terrain.py", "try_headline.py", "try_program.py", "try_sessions.py", "try_versions.py", "try_views.py")
 
 
 def scripts():
