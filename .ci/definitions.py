@@ -12,7 +12,7 @@ definitions that do. A line of a definition counts where it is no blank, comment
 import sys
 
 from clauses import public_clauses
-from sources import ROOT, behind, definition, definitions_of, help_wanted, lines_in, named_in, settle, spec_files, stands_on
+from sources import ROOT, behind, definition, definitions_of, known_words, lines_in, named_in, settle, spec_files, stands_on
 
 # Of the definitions that name one so many are told.
 MOST = 4
@@ -104,7 +104,7 @@ def page():
 
 
 def main():
-    help_wanted(__doc__)
+    known_words(__doc__, "--check", "--behind")
     if sys.argv[1:] == ["--behind"]:
         files = {}
         for one in behind_run():
@@ -113,7 +113,7 @@ def main():
             print(lines, path.relative_to(ROOT))
         print(sum(files.values()), "lines in", len(files), "files")
     else:
-        settle(sys.argv[1:], "definitions.py", "docs/DEFINITIONS.md", page())
+        settle("definitions.py", "docs/DEFINITIONS.md", page())
 
 
 main()

@@ -13,7 +13,7 @@ docs/parts/. Each name of the library that the definitions use has to stand in t
 import re
 import sys
 
-from sources import ROOT, behind, definition, definitions_of, help_wanted, lines_in, named_in, settle, spec_files, stands_on, types_in
+from sources import ROOT, behind, definition, definitions_of, known_words, lines_in, named_in, settle, spec_files, stands_on, types_in
 
 SENTENCE = (
     "For every LAS file, session scripts, worker count and interleaving, each session's output is its commands' replies in order, "
@@ -271,8 +271,8 @@ def page():
 
 
 def main():
-    help_wanted(__doc__)
-    settle(sys.argv[1:], "headline.py", "docs/HEADLINE.md", page())
+    known_words(__doc__, "--check")
+    settle("headline.py", "docs/HEADLINE.md", page())
 
 
 main()

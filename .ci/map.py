@@ -16,7 +16,7 @@ each name by which README.md says that something is proved, in some crate.
 import re
 import sys
 
-from sources import ROOT, between, help_wanted, settle, source_files, stands_on
+from sources import ROOT, between, known_words, settle, source_files, stands_on
 
 PAGE = "docs/ARCHITECTURE.md"
 USED = " *Used by "
@@ -135,13 +135,13 @@ def claims():
 
 
 def main():
-    help_wanted(__doc__)
+    known_words(__doc__, "--check")
     page, below = (ROOT / PAGE).read_text(), stands_on()
     promises(page)
     claims()
     page = between(page, "layers", drawing(page, below))
     page = between(page, "kit crates", kit(below))
-    settle(sys.argv[1:], "map.py", PAGE, with_users(page, below))
+    settle("map.py", PAGE, with_users(page, below))
 
 
 main()

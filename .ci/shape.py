@@ -14,7 +14,7 @@
 import re
 import sys
 
-from sources import ROOT, help_wanted, stands_on
+from sources import ROOT, known_words, stands_on
 
 UNCOUNTED = {"view_meaning", "view_main", "acceptance"}
 CHAIN, LINES, CLAUSE = 8, 400, 200
@@ -55,7 +55,7 @@ def wrapped(text):
 
 
 def main():
-    help_wanted(__doc__)
+    known_words(__doc__, "--chain")
     below, known = stands_on(), {}
     chain = max((longest(below, crate, known) for crate in below), key=len)
     if sys.argv[1:] == ["--chain"]:

@@ -7,9 +7,7 @@
 Lines are all lines of the files: src/**/*.rt, specs/**/*.antt and proofs/**/*.antt. Edits are the files must-fail/*.edit.
 """
 
-import sys
-
-from sources import ROOT, between, help_wanted, settle, stands_on
+from sources import ROOT, between, known_words, settle, stands_on
 
 PAGE = "docs/PROVING.md"
 PARTS = (("src", "rt"), ("specs", "antt"), ("proofs", "antt"))
@@ -32,8 +30,8 @@ def table():
 
 
 def main():
-    help_wanted(__doc__)
-    settle(sys.argv[1:], "sizes.py", PAGE, between((ROOT / PAGE).read_text(), "sizes", table()))
+    known_words(__doc__, "--check")
+    settle("sizes.py", PAGE, between((ROOT / PAGE).read_text(), "sizes", table()))
 
 
 main()

@@ -279,20 +279,20 @@ def between(text, name, inside):
     return before + begin + inside + end + after
 
 
-def settle(arguments, script, page, wanted):
+def settle(script, page, wanted):
     """Writes a page, or with --check says that it isn't what would be written."""
     path = ROOT / page
-    if arguments == ["--check"]:
-        if not path.exists() or path.read_text() != wanted:
-            sys.exit(f"{page} is not what `python3 .ci/{script}` writes")
-    elif arguments:
-        sys.exit(f"unknown words: {' '.join(arguments)}; see `python3 .ci/{script} --help`")
-    else:
+    if sys.argv[1:] != ["--check"]:
         path.write_text(wanted)
+    elif not path.exists() or path.read_text() != wanted:
+        sys.exit(f"{page} is not what `python3 .ci/{script}` writes")
 
 
-def help_wanted(doc):
-    """Prints the help of a script and ends, where it is asked for."""
-    if sys.argv[1:] in (["--help"], ["-h"]):
+def known_words(doc, *known):
+    """Ends where the words of a script are none that it knows, and prints its help where they ask for that."""
+    words = sys.argv[1:]
+    if words in (["--help"], ["-h"]):
         print(doc.strip())
         sys.exit()
+    if words and (words[1:] or words[0] not in known):
+        sys.exit(f"unknown words: {' '.join(words)} (--help tells the words)")

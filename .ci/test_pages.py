@@ -65,24 +65,18 @@ class Pages(unittest.TestCase):
         said = {script: started.communicate()[0] for script, started in [(script, self.start(script, "--check")) for script in PAGES]}
         return [script for script, page in PAGES.items() if f"{page} is not what" in said[script]]
 
-    def test_fresh_pages_pass(self):
+    def test_a_page_is_stale_where_its_sources_are_others(self):
         self.assertEqual(self.stale(), [])
-
-    def test_a_changed_comment_makes_two_pages_stale(self):
         self.change(SERVE, "-- a command told nothing of sessions", "-- a command tells nothing of sessions")
         self.assertEqual(self.stale(), ["definitions.py", "headline.py"])
 
-    def test_a_changed_page_is_stale(self):
+    def test_a_page_is_stale_where_a_line_comes_or_a_clause_has_another_name(self):
+        self.change("crates/las_write/src/writing.rt", "ensures given", "\n        ensures gave")
+        self.assertEqual(self.stale(), ["definitions.py", "sizes.py"])
+
+    def test_a_page_is_stale_where_it_was_changed_itself(self):
         self.change("docs/HEADLINE.md", "# The promise of `run`", "# The promise")
-        self.assertEqual(self.stale(), ["headline.py"])
-
-    def test_a_line_more_changes_the_sizes(self):
-        self.change("crates/view_main/src/main.rt", "\n", "\n\n")
-        self.assertEqual(self.stale(), ["sizes.py"])
-
-    def test_a_clause_that_cites_less_is_seen(self):
-        self.change("crates/las_write/src/writing.rt", "ensures given", "ensures gave")
-        self.assertEqual(self.stale(), ["definitions.py"])
+        self.assertIn("docs/HEADLINE.md is not what", self.run_script("headline.py", "--check"))
 
     def test_a_field_that_no_part_cites_is_refused(self):
         self.change(SERVE, "  pub pairs :", "  pub more : Bool\n  pub pairs :")
