@@ -6,9 +6,10 @@
     python3 .ci/check_times.py --page LOG ..            writes the table into docs/PROVING.md too, if the command passed
 
 Run it at the top of a clean clone, with nothing kept (`rt ci --anew`) where the whole time is asked for.
-The table comes on standard output and at the end of LOG, as Markdown. The status is that of the command. While the command runs, this looks four times a second at its processes
-in /proc (so it needs Linux): a check's words name its crate, a check of tests has the word `--test`, and
-an edit is checked in a folder rt-edit-*. What ends between two looks is told as not attributed.
+The table comes on standard output and at the end of LOG, as Markdown. The status is that of the command.
+While the command runs, this looks four times a second at its processes in /proc (so it needs Linux): a
+check's words name its crate, a check of tests has the word `--test`, and an edit is checked in a folder
+rt-edit-*. What ends between two looks is told as not attributed.
 """
 
 import os

@@ -100,11 +100,16 @@ PARTS = [
         "The reply to a view is `picture`, which is made pixel by pixel of the nearest record, and knows no worker, block or frame.",
         ["reply = View"],
     ),
-    ("and every saved file the read bytes with the classes", "The reply to a save is `saved`, which differs from `b` in class bits alone.", ["reply = Save"]),
+    (
+        "and every saved file the read bytes with the classes",
+        "The reply to a save is `saved`, which differs from `b` in class bits alone.",
+        ["reply = Save"],
+    ),
     (
         "of one version of the run's single edit journal,",
         "There is one history for all sessions. A version is a front of its published edits, and each item has one mark, the version of its "
-        "reply, which `Makes` ties to the session's own entry in that history. At the end JOURNAL's file has the line of each edit, or the cause is told.",
+        "reply, which `Makes` ties to the session's own entry in that history. At the end JOURNAL's file has the line of each edit, or the "
+        "cause is told.",
         [
             "RunsSessions.legal",
             "RunsSessions.makers",
@@ -121,7 +126,11 @@ PARTS = [
         ["Served.rising", "Served.newer"],
     ),
     ("a session stops early only for want of memory,", "Of the reasons of an end `Memory` is the only one without a cause.", []),
-    ("a stated limit", "`SessionLimit` comes exactly where byte 2^20 + 1 of the input came.", ["Processed.limit", "Processed.few", "RunsSession.taken"]),
+    (
+        "a stated limit",
+        "`SessionLimit` comes exactly where byte 2^20 + 1 of the input came.",
+        ["Processed.limit", "Processed.few", "RunsSession.taken"],
+    ),
     (
         "or an endpoint that failed.",
         "`ReadFault` comes exactly where the count of failed reads of IN rose, and `WriteFault` only where that of failed writes of OUT did.",
