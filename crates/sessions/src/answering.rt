@@ -181,7 +181,8 @@ fn answer_count<R: Threads + Wait + Sync, O: Sink>(
     let pin = world.shared.pin(rt, pass)?;
     let version = pin.version();
     append_count(
-        &world.scene.survey,
+        rt,
+        &world.scene,
         pin.classes(),
         version,
         filter,

@@ -52,20 +52,22 @@ pub fn append_picture<R: Threads + Sync, B: Beside>(
     drawn
 }
 
-/// Appends the reply to a count: how many records pass a filter under the classes of a version. It
-/// fits in the room, so it takes no memory.
-pub fn append_count(
-    survey: &Survey,
+/// Appends the reply to a count: how many records pass a filter under the classes of a version. The
+/// scene's workers count side by side. The reply fits in the room, so this takes no memory.
+pub fn append_count<R: Threads + Sync>(
+    rt: &R,
+    scene: &Scene,
     classes: &Classes,
     version: Version,
     filter: &Filter,
     out: &mut Bytes,
 )
-    requires records { length classes.now ≡ record_count survey.now }
+    requires scene { IsScene scene.now }
+    requires records { length classes.now ≡ record_count (arc_value scene.now.survey) }
     requires room { HEAD ≤ out.old.spare }
-    ensures { out.new.items ≡ out.old.items ++ head (codes "COUNT") version (passing survey.now classes.now filter.now) }
+    ensures { out.new.items ≡ out.old.items ++ head (codes "COUNT") version (passing (arc_value scene.now.survey) classes.now filter.now) }
 {
-    let passing = count_passing(survey, classes, filter);
+    let passing = count_passing(rt, scene.workers, &scene.survey, classes, filter);
     append_head(out, b"COUNT", version, u64::from(passing));
 }
 

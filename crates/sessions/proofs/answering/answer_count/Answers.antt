@@ -28,6 +28,6 @@ returns-clause-answered g c =
     shown_by b c.args.world.now.shared.bytes c.args.pass.now c.pin.new.pass c.unpin.new.pass c.args.marks.now.items c.reserve.new.self.items c.push_within.new.self.items v c.in_ok-pin.pin
     c.requires.world.bytes c.requires.ready.own c.pin.ensures.own c.unpin.ensures.own c.in_ok-pin.ensures.made c.in_ok-pin.ensures.pin c.version-version.ensures c.reserve.ensures.same c.push_within.ensures.pushed c.unpin.ensures.made in
     answered_count b c.args.pass.now c.pin.new.pass c.unpin.new.pass c.args.marks.now.items c.push_within.new.self.items v c.in_ok-pin.pin.classes shown filter c.as_slice.result.now _ _ c.give_all.result
-    (c.as_slice.ensures ∙ c.append_count.ensures ∙ ap (λ (l : List ℕ). l ++ head (codes "COUNT") v (passing c.deref.result.now c.classes.result.now filter)) (c.reserve-2.ensures.same ∙ c.new-out.ensures)
-    ∙ ap (λ (l : List ℕ). head (codes "COUNT") v (passing l c.classes.result.now filter)) c.deref.ensures ∙ ap (λ (cs : List ℕ). head (codes "COUNT") v (passing b cs filter)) c.classes.ensures)
+    (c.as_slice.ensures ∙ c.append_count.ensures ∙ ap (λ (l : List ℕ). l ++ head (codes "COUNT") v (passing b c.classes.result.now filter)) (c.reserve-2.ensures.same ∙ c.new-out.ensures)
+    ∙ ap (λ (cs : List ℕ). head (codes "COUNT") v (passing b cs filter)) c.classes.ensures)
     c.give_all.ensures.given c.give_all.ensures.part
