@@ -11,6 +11,7 @@ use Rattle.view_meaning.proofs.Nearest.{range_more}
 use Rattle.view_meaning.proofs.Passing.{passes-all}
 use Rattle.min_frame.specs.Meaning.{Seated}
 use Rattle.splat_workers.specs.Pairs.{pair_at, pair_of}
+use Rattle.splat_workers.specs.Waiting.{Waiting, drawn}
 
 -- a seat with more plots
 abbrev pub plotting : Seated → List (ℕ × ℕ) → Seated
@@ -27,6 +28,10 @@ plotting-more start before after done new all was made is =
 pub plotting-none : (before after : Seated) → after ≡ before → after ≡ plotting before []
 plotting-none before after is =
     is ∙ ap (λ (l : List (ℕ × ℕ)). record { frame = before.frame; plots = l; claims = before.claims; ends = before.ends; root = before.root; out = before.out }) (sym (append-nil before.plots))
+
+-- the same seat and the same plots that wait
+pub drawn-same : (s t : Seated) (v w : Waiting) → s ≡ t → v ≡ w → drawn s v ≡ drawn t w
+drawn-same s t v w seats waits = ap (λ (x : Seated). drawn x v) seats ∙ ap (drawn t) waits
 
 -- a record that passes has the pair of the spot of its point
 pub pair_of-passes : (b cs : List ℕ) (lens : Lens) (filter : Filter) (i : ℕ) (p : Point) → passes b cs filter i ≡ true → p ≡ point_of b i → pair_at lens i (spot lens p) ≡ pair_of b cs lens filter i

@@ -1,3 +1,4 @@
 pub mod Pairs
 pub mod Drawing
 pub mod Working
+pub mod Waiting

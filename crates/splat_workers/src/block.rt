@@ -3,10 +3,12 @@ ghost use Rattle.std.specs.Bool.{OnTrue};
 ghost use Rattle.std.specs.List.{flat_map, range_with_len};
 ghost use Rattle.grid_blocks.specs.Blocks.{IsBlocks};
 ghost use Rattle.splat_workers.specs.Pairs.{pair_at, pair_of, block_pairs};
+ghost use Rattle.splat_workers.specs.Waiting.{drawn};
 ghost use Rattle.view_meaning.specs.Camera.{spot};
 ghost use Rattle.view_meaning.specs.Classes.{all_classes};
 ghost use Rattle.view_meaning.specs.Survey.{point_of, record_count, withheld_of};
 
+use crate::batch::Batch;
 use crate::plan::Plan;
 use class_bits::{ClassSet, Filter, passes};
 use grid_blocks::BlockRecords;
@@ -64,9 +66,18 @@ fn plot_each(plan: &Plan, frame: &Frame, seat: &mut Seat, numbers: &[u32], point
 {
     // A class is a byte, and the set of all classes has each byte.
     prove!(plan.classes.pages() <= u32::MAX);
+    let mut batch = Batch::new(plan.camera.width() * plan.camera.height());
     for place in 0..numbers.len() {
-        plot_point(frame, seat, plan.camera, points[place], numbers[place]);
+        plot_point(
+            frame,
+            seat,
+            &mut batch,
+            plan.camera,
+            points[place],
+            numbers[place],
+        );
     }
+    batch.flush(frame, seat);
 }
 
 /// Plots those of a block's records that pass the plan's filter.
@@ -80,25 +91,45 @@ fn plot_passing(plan: &Plan, frame: &Frame, seat: &mut Seat, records: &BlockReco
     ensures { seat.new ≡ record seat.old { plots = seat.old.plots ++ flat_map (pair_of plan.now.survey.now plan.now.classes.now plan.now.camera.now plan.now.filter.now) records.now.numbers.now } }
 {
     let numbers = records.numbers;
+    let mut batch = Batch::new(plan.camera.width() * plan.camera.height());
     for place in 0..numbers.len() {
         let number = numbers[place];
         let class = plan.classes.class_at(number);
         if passes(plan.filter, class, records.withheld[place]) {
-            plot_point(frame, seat, plan.camera, records.points[place], number);
+            plot_point(
+                frame,
+                seat,
+                &mut batch,
+                plan.camera,
+                records.points[place],
+                number,
+            );
         }
     }
+    batch.flush(frame, seat);
 }
 
-/// Plots the record of a number where it stands in the camera's picture.
+/// Plots the record of a number where it stands in the camera's picture: among those that wait, or
+/// at once.
 #[inline]
-fn plot_point(frame: &Frame, seat: &mut Seat, camera: &Camera, point: Point, number: u32)
+fn plot_point(
+    frame: &Frame,
+    seat: &mut Seat,
+    batch: &mut Batch,
+    camera: &Camera,
+    point: Point,
+    number: u32,
+)
     requires frame { seat.old.frame ≡ frame.now.name }
+    requires waits { batch.old.pixels ≡ frame.now.pixels }
     requires pixels { frame.now.pixels ≡ camera.now.width * camera.now.height }
-    ensures { seat.new ≡ record seat.old { plots = seat.old.plots ++ pair_at camera.now number (spot camera.now point) } }
+    ensures drawn { drawn seat.new batch.new ≡ record (drawn seat.old batch.old) { plots = (seat.old.plots ++ batch.old.plots) ++ pair_at camera.now number (spot camera.now point) } }
+    ensures frame { seat.new.frame ≡ seat.old.frame }
+    ensures waits { batch.new.pixels ≡ batch.old.pixels }
 {
     if let Some(spot) = project(camera, point) {
         let value = (u64::from(spot.depth) << 32) + u64::from(number);
-        frame.plot(seat, spot.pixel, value);
+        batch.plot(frame, seat, spot.pixel, value);
     }
 }
 
@@ -139,10 +170,12 @@ fn plot_each_numbered(plan: &Plan, frame: &Frame, seat: &mut Seat, first: u32, c
 {
     // A class is a byte, and the set of all classes has each byte.
     prove!(plan.classes.pages() <= u32::MAX);
+    let mut batch = Batch::new(plan.camera.width() * plan.camera.height());
     for number in first..first + count {
         let point = xyz(plan.survey.point_bytes(number));
-        plot_point(frame, seat, plan.camera, point, number);
+        plot_point(frame, seat, &mut batch, plan.camera, point, number);
     }
+    batch.flush(frame, seat);
 }
 
 /// Plots those of the records of so many numbers that pass the plan's filter.
@@ -155,11 +188,13 @@ fn plot_passing_numbered(plan: &Plan, frame: &Frame, seat: &mut Seat, first: u32
     ensures { seat.new ≡ record seat.old { plots = seat.old.plots ++ flat_map (pair_of plan.now.survey.now plan.now.classes.now plan.now.camera.now plan.now.filter.now) (range_with_len first count) } }
 {
     let format = plan.survey.header().format;
+    let mut batch = Batch::new(plan.camera.width() * plan.camera.height());
     for number in first..first + count {
         let rec = plan.survey.point_bytes(number);
         let class = plan.classes.class_at(number);
         if passes(plan.filter, class, withheld(format, rec)) {
-            plot_point(frame, seat, plan.camera, xyz(rec), number);
+            plot_point(frame, seat, &mut batch, plan.camera, xyz(rec), number);
         }
     }
+    batch.flush(frame, seat);
 }

@@ -3,6 +3,7 @@
 //! claims which block, the closed frame has the nearest record of each pixel.
 #![tactic(auto)]
 
+mod batch;
 mod block;
 mod drawing;
 mod nearest;

@@ -1,4 +1,4 @@
-use Rattle.std.proofs.Common.{◌+◌, ◌<◌, arith}
+use Rattle.std.proofs.Common.{◌∙◌, ◌+◌, ◌<◌, arith}
 use Rattle.view_meaning.proofs.Reading.{point-from_part}
 use Rattle.splat_workers.specs.Pairs.{pair_of}
 use Rattle.splat_workers.proofs.Plotting.{plotting-more, pairs-range, pair_of-passes, passes-any}
@@ -12,6 +12,10 @@ loop-number-preserved c =
     let filter = c.args.plan.now.filter.now in
     let i = c.loop-number.number in
     let below : i < c.args.first + c.args.count = c.loop-number-test.true in
-    plotting-more _ _ _ _ _ _ c.loop-number.invariant c.plot_point.ensures (pairs-range (pair_of b cs lens filter) c.args.first i _ c.loop-number.auto.number
-    (pair_of-passes b cs lens filter i _ (passes-any b cs filter i c.pages.ensures.bytes (omega (arith, below, c.requires.records, c.requires.numbers)) c.requires.classes c.requires.withheld)
-    (point-from_part b i _ _ c.point_bytes.ensures.least c.point_bytes.ensures.bytes c.xyz-point.ensures)))
+    record {
+      drawn = plotting-more _ _ _ _ _ _ c.loop-number.invariant.drawn c.plot_point.ensures.drawn (pairs-range (pair_of b cs lens filter) c.args.first i _ c.loop-number.auto.number
+          (pair_of-passes b cs lens filter i _ (passes-any b cs filter i c.pages.ensures.bytes (omega (arith, below, c.requires.records, c.requires.numbers)) c.requires.classes c.requires.withheld)
+          (point-from_part b i _ _ c.point_bytes.ensures.least c.point_bytes.ensures.bytes c.xyz-point.ensures)));
+      frame = c.plot_point.ensures.frame ∙ c.loop-number.invariant.frame;
+      waits = c.plot_point.ensures.waits ∙ c.loop-number.invariant.waits;
+    }

@@ -1,8 +1,13 @@
-use Rattle.std.proofs.Common.{◌≡◌, ◌++◌, ◌-◌}
+use Rattle.std.proofs.Common.{◌≡◌, ◌-◌}
 use Rattle.std.specs.List.{flat_map, range_with_len}
 use Rattle.splat_workers.specs.Pairs.{pair_of}
+use Rattle.splat_workers.specs.Waiting.{drawn}
+use Rattle.splat_workers.proofs.Plotting.{plotting}
 use Rattle.splat_workers.proofs.block.plot_each_numbered.Given as goal
 
 abbrev pub invariant-loop-number : goal.invariant-loop-number
-invariant-loop-number l =
-    l.seat ≡ record l.fn.seat { plots = l.fn.seat.plots ++ flat_map (pair_of l.plan.survey.now l.plan.classes.now l.plan.camera.now l.plan.filter.now) (range_with_len l.first (l.number - l.first)) }
+invariant-loop-number l = record {
+  drawn : drawn l.seat l.batch ≡ plotting l.fn.seat (flat_map (pair_of l.plan.survey.now l.plan.classes.now l.plan.camera.now l.plan.filter.now) (range_with_len l.first (l.number - l.first)));
+  frame : l.seat.frame ≡ l.fn.seat.frame;
+  waits : l.batch.pixels ≡ l.frame.pixels;
+}

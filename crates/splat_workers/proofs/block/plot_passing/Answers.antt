@@ -1,8 +1,10 @@
-use Rattle.std.proofs.Common.{◌≡◌, ◌∙◌, slice_index, sym}
+use Rattle.std.proofs.Common.{◌≡◌, ◌∙◌, slice_index, sym, ap}
 use Rattle.view_meaning.specs.Classes.{passes}
 use Rattle.view_meaning.specs.Survey.{point_of, withheld_of}
 use Rattle.splat_workers.specs.Pairs.{pair_of}
-use Rattle.splat_workers.proofs.Plotting.{plotting-more, plotting-none, pairs-take, pair_of-passes, pair_of-fails, passes-read, at_place}
+use Rattle.min_frame.specs.Meaning.{Seated}
+use Rattle.splat_workers.specs.Waiting.{Waiting}
+use Rattle.splat_workers.proofs.Plotting.{drawn-same, plotting-more, plotting-none, pairs-take, pair_of-passes, pair_of-fails, passes-read, at_place}
 use Rattle.splat_workers.proofs.block.plot_passing.Goals as goal
 use Rattle.splat_workers.proofs.block.plot_passing.Goals.{then-passes, else-passes}
 
@@ -19,8 +21,16 @@ loop-place-preserved c =
     let tested : c.passes.result ≡ passes b cs filter i =
     passes-read b cs filter i _ _ c.passes.result c.class_at-class.ensures (at_place (withheld_of b) numbers c.args.records.now.withheld.now place _ c.requires.withheld lt) c.passes.ensures in
     elim c.if-passes.branch [
-      | then-passes w ↦ plotting-more _ _ _ _ _ _ c.loop-place.invariant (w.seat-is ∙ w.plot_point.ensures) (pairs-take (pair_of b cs lens filter) numbers place _ lt
-          (pair_of-passes b cs lens filter i _ (sym tested ∙ w.if-passes.true) (at_place (point_of b) numbers c.args.records.now.points.now place _ c.requires.points lt)))
-      | else-passes w ↦ plotting-more _ _ _ _ _ _ c.loop-place.invariant (plotting-none _ _ w.seat-is) (pairs-take (pair_of b cs lens filter) numbers place _ lt
-          (sym (pair_of-fails b cs lens filter i (sym tested ∙ w.if-passes.false))))
+      | then-passes w ↦ record {
+        drawn = plotting-more _ _ _ _ _ _ c.loop-place.invariant.drawn (drawn-same _ _ _ _ w.seat-is w.batch-is ∙ w.plot_point.ensures.drawn) (pairs-take (pair_of b cs lens filter) numbers place _ lt
+            (pair_of-passes b cs lens filter i _ (sym tested ∙ w.if-passes.true) (at_place (point_of b) numbers c.args.records.now.points.now place _ c.requires.points lt)));
+        frame = ap (λ (s : Seated). s.frame) w.seat-is ∙ w.plot_point.ensures.frame ∙ c.loop-place.invariant.frame;
+        waits = ap (λ (v : Waiting). v.pixels) w.batch-is ∙ w.plot_point.ensures.waits ∙ c.loop-place.invariant.waits;
+      }
+      | else-passes w ↦ record {
+        drawn = plotting-more _ _ _ _ _ _ c.loop-place.invariant.drawn (plotting-none _ _ (drawn-same _ _ _ _ w.seat-is w.batch-is)) (pairs-take (pair_of b cs lens filter) numbers place _ lt
+            (sym (pair_of-fails b cs lens filter i (sym tested ∙ w.if-passes.false))));
+        frame = ap (λ (s : Seated). s.frame) w.seat-is ∙ c.loop-place.invariant.frame;
+        waits = ap (λ (v : Waiting). v.pixels) w.batch-is ∙ c.loop-place.invariant.waits;
+      }
     ]
