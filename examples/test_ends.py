@@ -71,7 +71,8 @@ WRITERS = (
     "trial_sum.py 5 0",
 )
 # These have no input but the repository, or none at all.
-WITHOUT = ("run_guide.py", "terrain.py", "trial_sum.py", "try_program.py", "try_sessions.py", "try_versions.py", "try_views.py")
+WITHOUT = ("run_guide.py", "terrain.py", "trial_sum.py", "try_program.py")
+WITHOUT += ("try_sessions.py", "try_trials.py", "try_versions.py", "try_views.py")
 
 
 def scripts():
