@@ -17,9 +17,12 @@ const LINE: &str = "trial 5 0 1 t";
 /// `EDITED 1 0` and `COUNT 1 0` with LF 11 and 10, which add up to 602 and 564.
 const TEXT: &[u8] = b"records 0\nbytes 375\nreplies 393301\nsum 4453\n";
 
+/// What the summary's file holds before a trial.
+const BEFORE: &[u8] = b"as it was";
+
 /// The files before a trial: the summary's own, one named as the number that the survey is made of,
 /// and another.
-const FILES: [File; 3] = [("t", b"as it was"), ("5", b"no number"), ("a.las", b"LASF")];
+const FILES: [File; 3] = [("t", BEFORE), ("5", b"no number"), ("a.las", b"LASF")];
 
 /// A trial by this line has to write this text, over either desk, and to leave the other files.
 fn sums(rt: &impl Host, alloc: Global, line: &str, text: &[u8]) -> Result<(), Fail> {
@@ -84,7 +87,7 @@ fn numbers_may_begin_with_zeros(rt: HostRuntime) -> Result<(), Fail> {
 
 #[test]
 fn a_number_is_no_name(rt: HostRuntime) -> Result<(), Fail> {
-    let after: [File; 2] = [("5", TEXT), ("t", b"as it was")];
+    let after: [File; 2] = [("5", TEXT), ("t", BEFORE)];
     let line = "trial 5 0 1 5";
     leaves::<MemDesk>(&rt, rt.alloc(), line, &FILES, Status::Done, &after)
 }
@@ -129,9 +132,9 @@ fn calls(
 fn the_call_takes_its_own_row_alone(rt: HostRuntime) -> Result<(), Fail> {
     for (line, status, text) in [
         (LINE, Status::Done, TEXT),
-        ("info a.las t", Status::Words { at: 0 }, b"as it was"),
-        ("", Status::Words { at: 0 }, b"as it was"),
-        ("trial 5 0 1 t t", Status::Words { at: 5 }, b"as it was"),
+        ("info a.las t", Status::Words { at: 0 }, BEFORE),
+        ("", Status::Words { at: 0 }, BEFORE),
+        ("trial 5 0 1 t t", Status::Words { at: 5 }, BEFORE),
     ] {
         calls(&rt, rt.alloc(), line, status, text)?;
     }
@@ -143,8 +146,13 @@ type Faults = [u64; 2];
 
 /// What is counted of the summary. Of the other names nothing has to be counted.
 fn counted(rt: &impl Abort, desk: &MemDesk, wanted: Faults) {
-    let read = ["5", "a.las"].map(|name| [desk.unopened(name), desk.taken(name)]);
-    same(rt, &read, &[[0, 0], [0, 0]], "other names");
+    let read = [
+        desk.unopened("5"),
+        desk.taken("5"),
+        desk.unopened("a.las"),
+        desk.taken("a.las"),
+    ];
+    same(rt, &read, &[0; 4], "other names");
     let got = [desk.write_faults("t"), desk.unkept("t")];
     same(rt, &got, &wanted, "the summary");
 }
