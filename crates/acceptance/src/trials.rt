@@ -63,18 +63,30 @@ fn the_summary_adds_up_what_is_replied(rt: HostRuntime) -> Result<(), Fail> {
     Ok(())
 }
 
-// The sum is that of examples/trial_sum.py, in numbers without bound.
+// This sum and the next are those of examples/trial_sum.py, in numbers without bound.
 #[test]
 fn the_summary_is_the_same_for_every_number_of_workers(rt: HostRuntime) -> Result<(), Fail> {
-    let text = b"records 100000\nbytes 3600375\nreplies 393309\nsum 24455612\n";
-    for line in [
-        "trial 5 100000 1 t",
-        "trial 5 100000 3 t",
-        "trial 5 100000 64 t",
-    ] {
+    let text = b"records 3000\nbytes 108375\nreplies 393305\nsum 2098807\n";
+    for line in ["trial 5 3000 1 t", "trial 5 3000 3 t", "trial 5 3000 64 t"] {
         sums(&rt, rt.alloc(), line, text)?;
     }
     Ok(())
+}
+
+/// A trial of 100000 records by this line has to write its text.
+fn sums_many(rt: &impl Host, alloc: Global, line: &str) -> Result<(), Fail> {
+    let text = b"records 100000\nbytes 3600375\nreplies 393309\nsum 24455612\n";
+    leaves::<StillDesk>(rt, alloc, line, &[], Status::Done, &[("t", text)])
+}
+
+#[test]
+fn one_worker_draws_many_records(rt: HostRuntime) -> Result<(), Fail> {
+    sums_many(&rt, rt.alloc(), "trial 5 100000 1 t")
+}
+
+#[test]
+fn many_workers_draw_as_many_records(rt: HostRuntime) -> Result<(), Fail> {
+    sums_many(&rt, rt.alloc(), "trial 5 100000 64 t")
 }
 
 #[test]
