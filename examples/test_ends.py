@@ -68,9 +68,11 @@ WRITERS = (
     f"reference_draw.py draw good.las - 1 {CAMERA}",
     "replies.py good.replies",
     "replies.py good.replies 1 -",
+    "trial_sum.py 5 0",
 )
 # These have no input but the repository, or none at all.
-WITHOUT = ("run_guide.py", "terrain.py", "try_headline.py", "try_program.py", "try_sessions.py", "try_versions.py", "try_views.py")
+WITHOUT = ("run_guide.py", "terrain.py", "trial_sum.py", "try_headline.py", "try_program.py")
+WITHOUT += ("try_sessions.py", "try_trials.py", "try_versions.py", "try_views.py")
 
 
 def scripts():

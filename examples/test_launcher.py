@@ -23,6 +23,8 @@ WRONG = ["info", "none", "out"]
 FURTHER = b"word 1 is 'none': no such file\n"
 PAIRS = [f"{end}{number}" for number in range(1, 17) for end in "io"]
 SCRIPT = "the name of a script of at most 1048576 bytes, or - for standard input"
+START = "a number from 0 to 18446744073709551615, of which the survey is made"
+RECORDS = "how many records it has, a number from 0 to 8388608"
 CAMERA = "1 ortho 1 1 0 0 0 1 0 0 0 1 0 0 0 1 1 1 0 10 class all show".split()
 
 
@@ -88,7 +90,7 @@ class Launcher(unittest.TestCase):
 
 class Passing(Launcher):
     def test_each_status_is_the_programs(self):
-        for status in (0, 2, 5, 12, 127):
+        for status in (0, 2, 5, 11, 127):
             for words in (RIGHT, WRONG):
                 # Of these the words only tell why a file can't be opened.
                 further = FURTHER if status == 5 and words is WRONG else b""
@@ -211,8 +213,8 @@ class Words(Launcher):
 
     def test_a_word_that_does_not_fit(self):
         for words, at, said in (
-            (["frob"], 0, "'frob': no command; the commands are draw, info and serve"),
-            (["draw", "a", "b", "65"], 3, "'65', where WORKERS is wanted: a number from 1 to 64: how many draw a picture side by side"),
+            (["frob"], 0, "'frob': no command; the commands are draw, info, serve and trial"),
+            (["draw", "a", "b", "65"], 3, "'65', where WORKERS is wanted: a number from 1 to 64: how many draw side by side; the bytes are the same for each"),
             (["draw", "a", "b", *CAMERA, "x y"], 26, "'x y': the words of draw end before it"),
             (["draw", "a", "a", *CAMERA], 2, "'a', as word 1 is"),
             (["serve", "a", "1", "-", "i", "-"], 5, "'-', as word 3 is"),
@@ -221,9 +223,15 @@ class Words(Launcher):
             (["serve", "survey", "1", "j", "-", "-", "i", "-"], 7, "'-', as word 5 is"),
             (["serve", "survey", "1", "j", *PAIRS, "i17"], 36, "'i17': the words of serve end before it"),
             (["serve", "survey", "1", "j", "i", "o", ""], 6, "'', where IN is wanted: " + SCRIPT),
+            (["serve", "1", "1", "j", "i", "1"], 5, "'1', as word 1 is"),
+            (["serve", "survey", "1", "1", "i", "1"], 5, "'1', as word 3 is"),
+            (["trial", "-1"], 1, f"'-1', where START is wanted: {START}"),
+            (["trial", "5", "8388609", "1", "t"], 2, f"'8388609', where N is wanted: {RECORDS}"),
+            (["trial", "1", "1", "1", "t", "t"], 5, "'t': the words of trial end before it"),
+            (["trial", "1", "1", "1", ""], 4, "'', where OUT is wanted: the name of the summary, or - for standard output"),
             (["info", "", "b"], 1, "'', where SURVEY is wanted: the name of a LAS file, or - for standard input"),
-            (["frob\x1b[2J"], 0, "$'frob\\E[2J': no command; the commands are draw, info and serve"),
-            (["grün"], 0, "'grün': no command; the commands are draw, info and serve"),
+            (["frob\x1b[2J"], 0, "$'frob\\E[2J': no command; the commands are draw, info, serve and trial"),
+            (["grün"], 0, "'grün': no command; the commands are draw, info, serve and trial"),
         ):
             further = self.refused(words, f"word {at} is not expected", 2)
             self.assertEqual(further.decode(), f"word {at} is {said}\n")
@@ -368,11 +376,40 @@ class Words(Launcher):
         words[23] = "intensity"
         self.assertEqual(self.refused(words, "format 6 has no colour", 4), b"")
 
-    def test_what_is_not_built(self):
-        for words, said in (
-            (["trial", "1", "2", "3", "o"], "word 0 is 'trial', which isn't built"),
+    def test_each_number_of_a_trial_is_known(self):
+        # Where the words look right the program is in the launcher's place, and nothing further is said.
+        for start, records, workers, out, looks_right in (
+            ("5", "100000", "4", "-", True),
+            ("18446744073709551615", "8388608", "64", "t", True),
+            ("-00", "-0", "007", "5", True),
+            ("00000000000000000000", "00000000000008388608", "1", "t", True),
+            ("18446744073709551616", "1", "1", "t", False),
+            ("99999999999999999999", "1", "1", "t", False),
+            ("000000000000000000001", "1", "1", "t", False),
+            ("-1", "1", "1", "t", False),
+            ("+1", "1", "1", "t", False),
+            ("1", "8388609", "1", "t", False),
+            ("1", "-1", "1", "t", False),
+            ("1", "", "1", "t", False),
+            ("1", "1", "0", "t", False),
+            ("1", "1", "65", "t", False),
+            ("1", "1", "1", "", False),
         ):
-            self.assertEqual(self.refused(words, "not built yet", 12).decode(), said + "\n")
+            words = ["trial", start, records, workers, out]
+            further = self.refused(words, "word 99 is not expected", 2)
+            self.assertEqual(further, b"" if looks_right else b"word 99 is missing\n", words)
+
+    def test_the_file_of_a_trial(self):
+        # What is there under the name of a number isn't looked at.
+        os.mkdir(os.path.join(self.root, "5"))
+        for out, verb, status, said in (
+            ("none/t", "open", 5, "'none/t': no such folder"),
+            ("crates", "open", 5, "'crates': a folder"),
+            ("/dev/full", "write", 9, "'/dev/full': a full device"),
+        ):
+            further = self.refused(["trial", "5", "1", "1", out], f"cannot {verb} word 4", status)
+            self.assertEqual(further.decode(), f"word 4 is {said}\n")
+        self.assertEqual(self.refused(["trial", "5", "5", "5", "survey"], "cannot open word 4", 5), b"")
 
     def test_another_status_than_the_word_would_give_says_nothing(self):
         for status in (7, 8, 9):
@@ -386,7 +423,12 @@ class Help(Launcher):
             status, out, err = self.end(words, "")
             lines = out.decode().splitlines()
             self.assertEqual((status, err, lines[-1]), (0, b"", f"The guide: {self.root}/docs/GUIDE.md"))
-            for start in ("  hidrevca draw SURVEY OUT WORKERS KIND W H ", "  ./hidrevca draw ", "  hidrevca serve SURVEY "):
+            for start in (
+                "  hidrevca draw SURVEY OUT WORKERS KIND W H ",
+                "  ./hidrevca draw ",
+                "  hidrevca serve SURVEY ",
+                "  hidrevca trial START ",
+            ):
                 self.assertEqual(sum(line.startswith(start) for line in lines), 1)
 
     def test_the_help_of_a_command_has_each_word(self):
