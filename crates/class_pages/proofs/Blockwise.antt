@@ -14,10 +14,10 @@ use Rattle.grid_blocks.specs.declared.block.Block.{Block}
 use Rattle.grid_blocks.specs.Blocks.{Blocked, IsBlocks, part}
 use Rattle.grid_blocks.proofs.Kept.{cut_within}
 use Rattle.grid_blocks.proofs.Laws.{block_of, place_of, within_area}
-use Rattle.grid_blocks.proofs.Once.{length-once}
+use Rattle.grid_blocks.proofs.Once.{length-once, part-range}
 use Rattle.class_pages.specs.AfterEdit.{after_edit}
 use Rattle.class_pages.specs.Boxes.{meets}
-use Rattle.class_pages.specs.Underway.{after_at, IsUnderway, IsMadeOf}
+use Rattle.class_pages.specs.Underway.{after_at, IsUnderway, IsMadeOf, IsFurther}
 use Rattle.class_pages.proofs.Areas.{apart}
 use Rattle.class_pages.proofs.Further.{made_outside}
 use Rattle.class_pages.proofs.Versions.{length-after_edit, get_or-after_edit}
@@ -62,12 +62,26 @@ members_outside b blocked k block area are is far = λ j d lt.
     (apart block.area area (point_of b (get_or blocked.members (block.first + j) 0)) far (within_area b blocked k (block.first + j) block are is (omega arith) (omega (arith, few))))
 
 -- a block that is passed over
-pub made_unmet : (b : List ℕ) (e : Edit) (old new : List ℕ) (blocked : Blocked) (k : ℕ) (block : Block) → IsBlocks b blocked → length old ≡ record_count b → slice_get blocked.blocks k ≡ Some block → meets block.area e.area ≡ false
-    → IsUnderway b e old new → IsMadeOf b e old new (part block blocked.members)
-made_unmet b e old new blocked k block are size is far h =
-    made_outside b e old new (part block blocked.members) h
-    (λ j d lt. let below : get_or (part block blocked.members) j d < record_count b = members_below b blocked block (part block blocked.members) are refl j d lt in omega (arith, below, size))
-    (members_outside b blocked k block e.area are is far)
+pub further_unmet : (b : List ℕ) (e : Edit) (old new : List ℕ) (blocked : Blocked) (k : ℕ) (block : Block) → IsBlocks b blocked → length new ≡ record_count b → slice_get blocked.blocks k ≡ Some block → meets block.area e.area ≡ false
+    → IsUnderway b e old new → IsFurther b e old new new (part block blocked.members) 0
+further_unmet b e old new blocked k block are size is far h = record {
+  underway = h;
+  kept = λ i was. was;
+  made = made_outside b e old new (part block blocked.members) h
+      (λ j d lt. let below : get_or (part block blocked.members) j d < record_count b = members_below b blocked block (part block blocked.members) are refl j d lt in omega (arith, below, size, h.size))
+      (members_outside b blocked k block e.area are is far);
+  count = omega arith;
+}
+
+-- the members of a block as their numbers
+pub further_part : (b : List ℕ) (e : Edit) (old mid new numbers : List ℕ) (blocked : Blocked) (block : Block) (changed : ℕ) → numbers ≡ part block blocked.members → IsFurther b e old mid new numbers changed
+    → IsFurther b e old mid new (part block blocked.members) changed
+further_part b e old mid new numbers blocked block changed is h = subst (λ (l : List ℕ). IsFurther b e old mid new l changed) is h
+
+-- where the places are the numbers, a block's members are those from its first place on
+pub part_numbered : (members : List ℕ) (block : Block) → members ≡ range_with_len 0 (length members) → block.first + block.count ≤ length members → range_with_len block.first block.count ≡ part block members
+part_numbered members block are within =
+    sym (ap (λ (l : List ℕ). take block.count (drop block.first l)) are ∙ part-range (length members) block.first block.count within)
 
 -- of the first k blocks' members the classes are those after the edit
 abbrev pub HasMadeBlocks : List ℕ → Edit → List ℕ → Blocked → ℕ → List ℕ → Type 0

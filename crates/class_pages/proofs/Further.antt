@@ -3,7 +3,7 @@ use Rattle.std.proofs.Common.{◌≡◌, ◌≢◌, ℕ, zero, suc, ◌+◌, ◌
 use Rattle.std.specs.Prelude.{◌⊎◌, slice_get}
 use Rattle.std.proofs.lemmas.Bool.{cases_eq, cases_lt}
 use Rattle.std.proofs.lemmas.Bool.Decides.{nat_tests}
-use Rattle.std.proofs.lemmas.List.{length-set, get_or-set_same, get_or-set_other, get_or_default, get_or-take, length-take}
+use Rattle.std.proofs.lemmas.List.{length-set, get_or-set_same, get_or-set_other, get_or_default, get_or-take, length-take, take_all}
 use Rattle.std.specs.List.{range_with_len}
 use Rattle.view_base.specs.declared.place.Point.{Point}
 use Rattle.view_meaning.specs.Survey.{point_of}
@@ -153,6 +153,10 @@ further_more b e old start mid new numbers j next n v count step p more in_numbe
     carried : (new mid old made : ℕ) → new ≡ mid → (mid ≡ old) ⊎ (mid ≡ made) → (new ≡ old) ⊎ (new ≡ made)
     carried new mid old made is (inl same) = inl (is ∙ same)
     carried new mid old made is (inr other) = inr (is ∙ other)
+
+-- all of them
+pub further_all : (b : List ℕ) (e : Edit) (old start new numbers : List ℕ) (j count : ℕ) → length numbers ≤ j → IsFurther b e old start new (take j numbers) count → IsFurther b e old start new numbers count
+further_all b e old start new numbers j count last h = subst (λ (l : List ℕ). IsFurther b e old start new l count) (take_all j numbers last) h
 
 -- records outside the edit's area are as after it already
 pub made_outside : (b : List ℕ) (e : Edit) (old new numbers : List ℕ) → IsUnderway b e old new → All (λ i. i < length old) numbers → All (λ i. in_box e.area (point_of b i) ≡ false) numbers → IsMadeOf b e old new numbers

@@ -1,12 +1,11 @@
 //! Edits by blocks. Neighbours in space are far apart in number: record i is at (7919 i modulo the
 //! number of records, 0, 0).
-ghost use Rattle.std.specs.Prelude.{IsSome};
 ghost use Rattle.grid_blocks.specs.Blocks.{IsBlocks};
 
 use crate::tests::{RECORDS, are, are_all, drawn_edit, edit_of, survey};
 use crate::{Classes, base};
 use edit_ops::Edit;
-use grid_blocks::{Blocks, build};
+use grid_blocks::{Blocks, build, build_by_number};
 use las_survey::Survey;
 use std::alloc::Global;
 use std::process::Abort;
@@ -25,8 +24,7 @@ fn edited(
     edit: &Edit,
     wanted: u64,
 ) -> Result<Classes, Fail>
-    requires blocks { IsBlocks survey.now blocks.now }
-    requires held { IsSome blocks.now.copies }
+    requires { IsBlocks survey.now blocks.now }
 {
     assert!(rt; edit.to <= 31);
     assert_eq!(rt; classes.len() as u64, u64::from(survey.records()));
@@ -59,8 +57,7 @@ fn edit_often(
     newest: &mut Classes,
     plain: &mut [u8],
 ) -> Result<(), Fail>
-    requires blocks { IsBlocks survey.now blocks.now }
-    requires held { IsSome blocks.now.copies }
+    requires { IsBlocks survey.now blocks.now }
 {
     let mut seed = 11;
     for _ in 0..100 {
@@ -96,29 +93,35 @@ fn edits_by_blocks_are_edits_of_a_plain_list(rt: HostRuntime) -> Result<(), Fail
     Ok(())
 }
 
-/// Whether an edit of all of so many records gives each of them its class, and leaves the version
-/// before as it was.
-fn all_change(rt: &impl Abort, alloc: Global, records: u32) -> Result<bool, Fail> {
-    let survey = survey(alloc, records, STEP)?;
-    let blocks = build(alloc, &survey)?;
-    let read = base(alloc, &survey)?;
+/// Whether an edit of all records gives each of them its class, and leaves the version before as it
+/// was.
+fn all_change(
+    rt: &impl Abort,
+    alloc: Global,
+    survey: &Survey,
+    blocks: &Blocks,
+) -> Result<bool, Fail>
+    requires { IsBlocks survey.now blocks.now }
+{
+    let read = base(alloc, survey)?;
     let all = edit_of(b"edit 0 0 0 9000 0 0 2 6")?;
-    let made = edited(
-        rt,
-        alloc,
-        &survey,
-        &blocks,
-        &read,
-        &all,
-        u64::from(records),
-    )?;
+    let wanted = u64::from(survey.records());
+    let made = edited(rt, alloc, survey, blocks, &read, &all, wanted)?;
     Ok(are_all(&read, 2) & are_all(&made, 6))
+}
+
+/// Whether all of so many records change, by blocks of either kind.
+fn all_change_twice(rt: &impl Abort, alloc: Global, records: u32) -> Result<bool, Fail> {
+    let survey = survey(alloc, records, STEP)?;
+    let by_cells = all_change(rt, alloc, &survey, &build(alloc, &survey)?)?;
+    let by_number = all_change(rt, alloc, &survey, &build_by_number(alloc, &survey)?)?;
+    Ok(by_cells & by_number)
 }
 
 #[test]
 fn an_edit_by_blocks_reaches_every_page(rt: HostRuntime) -> Result<(), Fail> {
     for records in [0, 1, 4095, 4096, 8193] {
-        let all = all_change(&rt, rt.alloc(), records)?;
+        let all = all_change_twice(&rt, rt.alloc(), records)?;
         assert!(rt; all);
     }
     Ok(())
@@ -128,8 +131,8 @@ fn an_edit_by_blocks_reaches_every_page(rt: HostRuntime) -> Result<(), Fail> {
 fn shared(rt: &impl Abort, one: &Classes, two: &Classes) -> [bool; 2] {
     assert_eq!(rt; (one.pages(), two.pages()), (2, 2));
     [
-        Arc::ptr_eq(one.page(0), two.page(0)),
-        Arc::ptr_eq(one.page(1), two.page(1)),
+        Arc::as_ptr(one.page(0)) == Arc::as_ptr(two.page(0)),
+        Arc::as_ptr(one.page(1)) == Arc::as_ptr(two.page(1)),
     ]
 }
 

@@ -1,4 +1,4 @@
-ghost use Rattle.std.specs.Prelude.{◌≡◌, ◌≢◌, ◌≤◌, ◌<◌, ◌+◌, ◌*◌, ◌^◌, ◌++◌, ◌∷◌, [], All, List, IfOk, IfSome, IsSome, length, take, drop, slice_index};
+ghost use Rattle.std.specs.Prelude.{◌≡◌, ◌≢◌, ◌≤◌, ◌<◌, ◌+◌, ◌*◌, ◌^◌, ◌++◌, ◌∷◌, [], All, List, IfOk, IfSome, length, take, drop, slice_index};
 ghost use Rattle.std.specs.Arc.{arc_value};
 ghost use Rattle.class_pages.specs.AfterEdit.{after_edit, IsAfter};
 ghost use Rattle.class_pages.specs.Boxes.{AreBoxesOf};
@@ -8,8 +8,8 @@ ghost use Rattle.grid_blocks.specs.Blocks.{IsBlocks};
 ghost use Rattle.view_meaning.specs.Classes as meaning;
 ghost use Rattle.view_meaning.specs.Survey.{record_count, format_of, point_of};
 
-use crate::boxes::{PageBoxes, may_change, meet};
-use crate::by_blocks::reclassify_each;
+use crate::boxes::{PageBoxes, may_change};
+use crate::by_blocks::reclassify_block;
 use crate::draft::Draft;
 use crate::page::{PAGE, Page, page_after, page_read};
 use edit_ops::Edit;
@@ -129,8 +129,7 @@ impl Classes {
         self.after(alloc, survey, Some(boxes), edit)
     }
 
-    /// `edited`, which looks only at the records of the blocks whose box the edit's area meets. The
-    /// blocks hold their records' points.
+    /// `edited`, which looks only at the records of the blocks whose box the edit's area meets.
     pub fn edited_by(
         &self,
         alloc: Global,
@@ -139,7 +138,6 @@ impl Classes {
         edit: &Edit,
     ) -> Result<(Classes, u64), OutOfMemory>
         requires blocks { IsBlocks survey.now blocks.now }
-        requires held { IsSome blocks.now.copies }
         requires records { length self.now ≡ record_count survey.now }
         requires room { edit.now.to ≤ meaning.top_class (format_of survey.now) }
         ensures classes { IfOk result (λ made. made.0 ≡ after_edit survey.now self.now edit.now) }
@@ -151,11 +149,7 @@ impl Classes {
         let mut draft = Draft::of(alloc, &self.pages, self.records)?;
         let mut changed = 0;
         for k in 0..blocks.count() {
-            if meet(blocks.block(k).area, edit.area) {
-                let records = blocks.records(k).unwrap();
-                changed +=
-                    reclassify_each(&mut draft, alloc, records.numbers, records.points, edit)?;
-            }
+            changed += reclassify_block(&mut draft, alloc, survey, blocks, k, edit)?;
         }
         let pages = draft.into_pages(alloc)?;
         let records = self.records;

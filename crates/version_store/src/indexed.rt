@@ -1,4 +1,4 @@
-ghost use Rattle.std.specs.Prelude.{◌≡◌, ◌≤◌, ◌++◌, ◌∷◌, [], ℕ, IfOk, IsSome, List, length};
+ghost use Rattle.std.specs.Prelude.{◌≡◌, ◌≤◌, ◌++◌, ◌∷◌, [], ℕ, IfOk, List, length};
 ghost use Rattle.std.specs.Arc.{arc_value};
 ghost use Rattle.class_pages.specs.Fitting.{EachFits};
 ghost use Rattle.grid_blocks.specs.Blocks.{IsBlocks};
@@ -20,7 +20,7 @@ use view_base::OutOfMemory;
 pub(crate) enum Index {
     /// A box around the records of each page of classes.
     Pages(Arc<PageBoxes>),
-    /// Blocks of the records, with their points.
+    /// Blocks of the records.
     Blocks(Arc<Blocks>),
 }
 
@@ -71,8 +71,7 @@ impl IndexedSurvey {
 
     /// The survey with these blocks of its records.
     pub(crate) fn by_blocks(survey: Arc<Survey>, blocks: Arc<Blocks>) -> IndexedSurvey
-        requires blocks { IsBlocks (arc_value survey) (arc_value blocks) }
-        requires held { IsSome (arc_value blocks).copies }
+        requires { IsBlocks (arc_value survey) (arc_value blocks) }
         ensures { result ≡ arc_value survey }
     {
         let index = Index::Blocks(blocks);

@@ -1,4 +1,4 @@
-ghost use Rattle.std.specs.Prelude.{◌≡◌, ◌+◌, ◌-◌, ◌^◌, ◌<◌, ◌≤◌, ◌⊎◌, true, false, [], ◌∷◌, ◌++◌, length, map, All, Contains, None, IfOk, IsSome, OnOk, OnErr};
+ghost use Rattle.std.specs.Prelude.{◌≡◌, ◌+◌, ◌-◌, ◌^◌, ◌<◌, ◌≤◌, ◌⊎◌, true, false, [], ◌∷◌, ◌++◌, length, map, All, Contains, None, IfOk, OnOk, OnErr};
 ghost use Rattle.std.specs.Arc.{arc_value};
 ghost use mathlib.Core.List.{IsPrefix};
 ghost use Rattle.class_pages.specs.Fitting.{EachFits};
@@ -81,15 +81,14 @@ impl Shared {
     }
 
     /// A store over a survey and blocks of its records with no entries, and its root pass. An edit
-    /// looks only at the records of the blocks whose box its area meets. The blocks hold their
-    /// records' points. The refusal is want of memory.
+    /// looks only at the records of the blocks whose box its area meets. The refusal is want of
+    /// memory.
     pub fn over(
         alloc: Global,
         survey: Arc<Survey>,
         blocks: Arc<Blocks>,
     ) -> Result<(Shared, Pass), OutOfMemory>
-        requires blocks { IsBlocks (arc_value survey) (arc_value blocks) }
-        requires held { IsSome (arc_value blocks).copies }
+        requires { IsBlocks (arc_value survey) (arc_value blocks) }
         ensures bytes { IfOk result (λ r. r.0.bytes ≡ arc_value survey) }
         ensures pass { IfOk result (λ r. r.1 ≡ record { gate = r.0.name; who = 0; seen = []; mine = []; turn = None; root = true; out = 0; given = 0; kept = [] }) }
         ensures own { IfOk result (λ r. IsOwn r.1) }

@@ -1,4 +1,4 @@
-ghost use Rattle.std.specs.Prelude.{◌≡◌, ◌≤◌, ◌++◌, ◌∷◌, [], length, map, All, IfOk, IsSome, OnOk, OnErr};
+ghost use Rattle.std.specs.Prelude.{◌≡◌, ◌≤◌, ◌++◌, ◌∷◌, [], length, map, All, IfOk, OnOk, OnErr};
 ghost use Rattle.std.specs.Arc.{arc_value};
 ghost use Rattle.class_pages.specs.Fitting.{EachFits};
 ghost use Rattle.grid_blocks.specs.Blocks.{IsBlocks};
@@ -53,15 +53,14 @@ impl Store {
         Store::of(alloc, IndexedSurvey::by_pages(alloc, survey)?)
     }
 
-    /// The store of a survey, whose edits look only at the records of the blocks near them. The
-    /// blocks hold their records' points. A refusal is want of memory. One pass over the records.
+    /// The store of a survey and blocks of its records, as `new` makes it. A refusal is want of
+    /// memory. One pass over the records.
     pub(crate) fn over(
         alloc: Global,
         survey: Arc<Survey>,
         blocks: Arc<Blocks>,
     ) -> Result<Store, OutOfMemory>
-        requires blocks { IsBlocks (arc_value survey) (arc_value blocks) }
-        requires held { IsSome (arc_value blocks).copies }
+        requires { IsBlocks (arc_value survey) (arc_value blocks) }
         ensures { IfOk result (λ store. store ≡ record { bytes = arc_value survey; history = [] }) }
     {
         Store::of(alloc, IndexedSurvey::by_blocks(survey, blocks))
