@@ -17,8 +17,8 @@ abbrev pub IsMadeOf : List ℕ → Edit → List ℕ → List ℕ → List ℕ �
 IsMadeOf b edit old new numbers = All (λ i. slice_index new i ≡ after_at b old edit i) numbers
 
 -- an edit that was under way is made of these records too, and so many more classes differ from before it
-pub record IsFurther (b : List ℕ) (edit : Edit) (old mid new numbers : List ℕ) (count : ℕ) : Type 0 where
+pub record IsFurther (b : List ℕ) (edit : Edit) (old mid new numbers : List ℕ) (more : ℕ) : Type 0 where
   pub underway : IsUnderway b edit old new
   pub kept : (i : ℕ) → slice_index mid i ≡ after_at b old edit i → slice_index new i ≡ after_at b old edit i
   pub made : IsMadeOf b edit old new numbers
-  pub count : changed old mid + count ≡ changed old new
+  pub count : changed old mid + more ≡ changed old new
