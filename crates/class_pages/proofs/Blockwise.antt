@@ -33,6 +33,12 @@ block_lt [] k block is = absurd cc
 block_lt (x ∷ blocks) zero block is = omega arith
 block_lt (x ∷ blocks) (suc k) block is = let rest : k < length blocks = block_lt blocks k block is in omega (arith, rest)
 
+-- a number has one block
+pub same_block : (blocks : List Block) (k : ℕ) (x y : Block) → slice_get blocks k ≡ Some x → slice_get blocks k ≡ Some y → x ≡ y
+same_block blocks k x y one two =
+    let both : Some x ≡ Some y = sym one ∙ two in
+    cc
+
 -- each member of a block is a record's number
 pub members_below : (b : List ℕ) (blocked : Blocked) (block : Block) (numbers : List ℕ) → IsBlocks b blocked → numbers ≡ part block blocked.members → All (λ i. i < record_count b) numbers
 members_below b blocked block numbers are is =

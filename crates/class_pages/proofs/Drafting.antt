@@ -1,5 +1,5 @@
 -- Pages of which one class on one page changes.
-use Rattle.std.proofs.Common.{◌≡◌, ◌≢◌, ℕ, zero, suc, ◌+◌, ◌-◌, ◌*◌, ◌/◌, ◌%◌, ◌<◌, ◌≤◌, min, List, [], ◌∷◌, ◌++◌, length, get_or, set, take, drop, inl, inr, refl, sym, ◌∙◌, ap, subst, arith, All}
+use Rattle.std.proofs.Common.{◌≡◌, ◌≢◌, ℕ, zero, suc, ◌+◌, ◌-◌, ◌*◌, ◌/◌, ◌%◌, ◌<◌, ◌≤◌, min, List, [], ◌∷◌, ◌++◌, length, get_or, set, take, drop, inl, inr, refl, sym, ◌∙◌, ap, subst, arith, All, Result, Ok, Err, OnOk, OnErr}
 use Rattle.std.proofs.lemmas.Bool.{cases_eq}
 use Rattle.std.proofs.lemmas.List.{ext_get_or, length-set, get_or-set_same, get_or-set_other, set-get_or, take_all}
 use Rattle.std.proofs.lemmas.List.Elements.{All-set}
@@ -111,3 +111,9 @@ set_paged f n i v pages old new h lt small is made =
 -- a page that stays
 pub set_same : {P : Type 0} (pages : List P) (k : ℕ) (old new : P) → old ≡ get_or pages k old → new ≡ old → set pages k new ≡ pages
 set_same pages k old new is same = ap (set pages k) (same ∙ is) ∙ set-get_or pages k old
+
+-- whether the class on a page was set or not
+pub set_paged_either : {P A E : Type 0} (f : P → List ℕ) → (n i v : ℕ) (pages : List P) (old new : P) (r : Result A E) → IsPaged f n pages → i < n → v < 256 → old ≡ get_or pages (i / 4096) old
+    → OnOk r (f new ≡ set (f old) (i % 4096) v) → OnErr r (new ≡ old) → IsPaged f n (set pages (i / 4096) new)
+set_paged_either f n i v pages old new (Ok x) h lt small is made stays = set_paged f n i v pages old new h lt small is made
+set_paged_either f n i v pages old new (Err e) h lt small is made stays = subst (IsPaged f n) (sym (set_same pages (i / 4096) old new is stays)) h

@@ -3,7 +3,7 @@ use Rattle.std.proofs.Common.{◌≡◌, ◌≢◌, ℕ, zero, suc, ◌+◌, ◌
 use Rattle.std.specs.Prelude.{◌⊎◌, slice_get}
 use Rattle.std.proofs.lemmas.Bool.{cases_eq, cases_lt}
 use Rattle.std.proofs.lemmas.Bool.Decides.{nat_tests}
-use Rattle.std.proofs.lemmas.List.{length-set, get_or-set_same, get_or-set_other, get_or_default, get_or-take, length-take, take_all}
+use Rattle.std.proofs.lemmas.List.{length-set, get_or-set_same, get_or-set_other, get_or_default, get_or-map, get_or-take, length-take, take_all}
 use Rattle.std.specs.List.{range_with_len}
 use Rattle.view_base.specs.declared.place.Point.{Point}
 use Rattle.view_meaning.specs.Survey.{point_of}
@@ -32,27 +32,30 @@ after_either : (p : Point) (c now : ℕ) (e : Edit) → (now ≡ c) ⊎ (now ≡
 after_either p c now e (inl same) = ap (λ (x : ℕ). class_after p x e) same
 after_either p c now e (inr made) = ap (λ (x : ℕ). class_after p x e) made ∙ once_more p c e
 
+abbrev one_if : Bool → ℕ
+one_if t = cond t 1 0
+
 -- one more number meets a test
-counts_one : (a m n : ℕ) (p q : ℕ → Bool) → a ≤ n → n < a + m → p n ≡ false → q n ≡ true → ((k : ℕ) → k ≢ n → p k ≡ q k) → count_by p (range_with_len a m) + 1 ≡ count_by q (range_with_len a m)
+counts_one : (a m n : ℕ) (p q : ℕ → Bool) → a ≤ n → n < a + m → p n ≡ false → q n ≡ true → ((k : ℕ) → k ≢ n → p k ≡ q k) → count_by q (range_with_len a m) ≡ count_by p (range_with_len a m) + 1
 counts_one a zero n p q low lt fails meets same = absurd (omega (arith, low, lt))
 counts_one a (suc m) n p q low lt fails meets same =
     let last_p : count_by p (range_with_len a (suc m)) ≡ count_by p (range_with_len a m) + cond (p (a + m)) 1 0 = counts_more a m (a + m) p refl in
     let last_q : count_by q (range_with_len a (suc m)) ≡ count_by q (range_with_len a m) + cond (q (a + m)) 1 0 = counts_more a m (a + m) q refl in
     elim (cases_lt n (a + m)) [
       | inl below ↦
-          let rest : count_by p (range_with_len a m) + 1 ≡ count_by q (range_with_len a m) = counts_one a m n p q low below fails meets same in
-          let last : cond (p (a + m)) 1 0 ≡ cond (q (a + m)) 1 0 = ap (λ (t : Bool). cond t 1 0) (same (a + m) (λ e. omega (arith, e, below))) in
+          let rest : count_by q (range_with_len a m) ≡ count_by p (range_with_len a m) + 1 = counts_one a m n p q low below fails meets same in
+          let last : one_if (p (a + m)) ≡ one_if (q (a + m)) = ap one_if (same (a + m) (λ e. omega (arith, e, below))) in
           omega (arith, last_p, last_q, rest, last)
       | inr least ↦
           let here : a + m ≡ n = omega (arith, lt, least) in
           let rest : count_by p (range_with_len a m) ≡ count_by q (range_with_len a m) = counts_same a m p q (λ k from upto. same k (λ e. omega (arith, e, upto, here))) in
-          let none : cond (p (a + m)) 1 0 ≡ 0 = ap (λ (t : Bool). cond t 1 0) (ap p here ∙ fails) in
-          let one : cond (q (a + m)) 1 0 ≡ 1 = ap (λ (t : Bool). cond t 1 0) (ap q here ∙ meets) in
+          let none : one_if (p (a + m)) ≡ 0 = ap one_if (ap p here ∙ fails) in
+          let one : one_if (q (a + m)) ≡ 1 = ap one_if (ap q here ∙ meets) in
           omega (arith, last_p, last_q, rest, none, one)
     ]
 
 -- one more class differs from before
-changed_one : (old mid new : List ℕ) (n : ℕ) → n < length old → get_or mid n 0 ≡ get_or old n 0 → get_or new n 0 ≢ get_or old n 0 → ((k : ℕ) → k ≢ n → get_or new k 0 ≡ get_or mid k 0) → changed old mid + 1 ≡ changed old new
+changed_one : (old mid new : List ℕ) (n : ℕ) → n < length old → get_or mid n 0 ≡ get_or old n 0 → get_or new n 0 ≢ get_or old n 0 → ((k : ℕ) → k ≢ n → get_or new k 0 ≡ get_or mid k 0) → changed old new ≡ changed old mid + 1
 unfolding changed
 changed_one old mid new n lt same other rest =
     counts_one 0 (length old) n (λ i. not (get_or old i 0 == get_or mid i 0)) (λ i. not (get_or old i 0 == get_or new i 0)) (omega arith) (omega (arith, lt))
@@ -84,7 +87,7 @@ counted_step old mid new n v step lt was made rest counted = elim (cases_eq v (g
       omega (arith, none, alike)
   | inr other ↦
       let one : step ≡ 1 = one_step v (get_or mid n 0) other counted in
-      let more : changed old mid + 1 ≡ changed old new = by_case was other in
+      let more : changed old new ≡ changed old mid + 1 = by_case was other in
       omega (arith, one, more)
 ]
   where
@@ -94,7 +97,7 @@ counted_step old mid new n v step lt was made rest counted = elim (cases_eq v (g
     one_step : (v w : ℕ) → v ≢ w → step ≡ (if v == w then 0 else 1) → step ≡ 1
     one_step v w is counted = grind (arith, nat_tests)
 
-    by_case : (get_or mid n 0 ≡ get_or old n 0) ⊎ (get_or mid n 0 ≡ v) → v ≢ get_or mid n 0 → changed old mid + 1 ≡ changed old new
+    by_case : (get_or mid n 0 ≡ get_or old n 0) ⊎ (get_or mid n 0 ≡ v) → v ≢ get_or mid n 0 → changed old new ≡ changed old mid + 1
     by_case (inl unchanged) other = changed_one old mid new n lt unchanged (λ e. other (sym made ∙ e ∙ sym unchanged)) rest
     by_case (inr already) other = absurd (other (sym already))
 
@@ -106,6 +109,15 @@ further_none b e old mid numbers h = record {
   made = λ k d lt. absurd (omega (arith, lt));
   count = omega arith;
 }
+
+-- a step counts one at most
+pub step_most : (t : Bool) (step : ℕ) → step ≡ (if t then 0 else 1) → step ≤ 1
+step_most true step is = omega (arith, is)
+step_most false step is = omega (arith, is)
+
+-- the point of the record at a place of a list
+pub point_at_place : (b numbers : List ℕ) (points : List Point) (place : ℕ) (d : Point) → points ≡ map (point_of b) numbers → place < length numbers → get_or points place d ≡ point_of b (get_or numbers place 0)
+point_at_place b numbers points place d are lt = ap (λ (l : List Point). get_or l place d) are ∙ get_or-map (point_of b) numbers place 0 d lt
 
 -- one more record
 pub further_more : (b : List ℕ) (e : Edit) (old start mid new numbers : List ℕ) (j next n v count step : ℕ) (p : Point) → next ≡ j + 1 → j < length numbers → n ≡ get_or numbers j 0 → n < length old → p ≡ point_of b n
