@@ -59,10 +59,7 @@ impl Model for IndexedSurvey {
 impl IndexedSurvey {
     /// The survey with the boxes of its pages. A refusal is want of memory. One pass over the
     /// records.
-    pub(crate) fn by_pages(
-        alloc: Global,
-        survey: Arc<Survey>,
-    ) -> Result<IndexedSurvey, OutOfMemory>
+    pub(crate) fn by_pages(alloc: Global, survey: Arc<Survey>) -> Result<IndexedSurvey, OutOfMemory>
         ensures { IfOk result (λ indexed. indexed ≡ arc_value survey) }
     {
         let index = Index::Pages(Arc::new(alloc, page_boxes(alloc, &survey)?)?);
