@@ -20,9 +20,9 @@ pub(crate) fn world(rt: &impl Abort, alloc: Global) -> Result<(World, Pass), Fai
 {
     let mut file = StillSource::new(plain(alloc, &ONE)?);
     let survey = load(alloc, &mut file).expect(rt, "a survey");
-    let blocks = build(alloc, &survey)?;
+    let blocks = Arc::new(alloc, build(alloc, &survey)?)?;
     let survey = Arc::new(alloc, survey)?;
-    let (shared, root) = Shared::new(alloc, Arc::try_clone(&survey)?)?;
+    let (shared, root) = Shared::over(alloc, Arc::try_clone(&survey)?, Arc::try_clone(&blocks)?)?;
     let scene = Scene {
         survey,
         blocks,

@@ -18,7 +18,7 @@ pub length-after_edit : (b cs : List ℕ) (e : Edit) → length (after_edit b cs
 unfolding after_edit
 length-after_edit b cs e = length-map-range_with_len (λ i. class_after (point_of b i) (get_or cs i 0) e) 0 (length cs)
 
-get_or-after_edit : (b cs : List ℕ) (e : Edit) (i : ℕ) → i < length cs → get_or (after_edit b cs e) i 0 ≡ class_after (point_of b i) (get_or cs i 0) e
+pub get_or-after_edit : (b cs : List ℕ) (e : Edit) (i : ℕ) → i < length cs → get_or (after_edit b cs e) i 0 ≡ class_after (point_of b i) (get_or cs i 0) e
 unfolding after_edit
 get_or-after_edit b cs e i within = get_or-map-range_with_len (λ i. class_after (point_of b i) (get_or cs i 0) e) 0 (length cs) i i 0 within (omega arith)
 

@@ -101,7 +101,7 @@ pub(crate) fn may_change(boxes: Option<&PageBoxes>, survey: &Survey, k: usize, a
 }
 
 /// Whether two boxes, each of which holds a point, have a point in common.
-fn meet(a: Box3, b: Box3) -> bool
+pub(crate) fn meet(a: Box3, b: Box3) -> bool
     ensures { result ≡ meets a b }
 {
     (a.min.x <= b.max.x)

@@ -4,12 +4,16 @@ ghost use Rattle.class_pages.specs.AfterEdit.{after_edit, IsAfter};
 ghost use Rattle.class_pages.specs.Boxes.{AreBoxesOf};
 ghost use Rattle.class_pages.specs.Fitting.{EachFits};
 ghost use Rattle.class_pages.specs.Pages.{page_count, page_of};
+ghost use Rattle.grid_blocks.specs.Blocks.{IsBlocks};
 ghost use Rattle.view_meaning.specs.Classes as meaning;
 ghost use Rattle.view_meaning.specs.Survey.{record_count, format_of, point_of};
 
 use crate::boxes::{PageBoxes, may_change};
+use crate::by_blocks::reclassify_block;
+use crate::draft::Draft;
 use crate::page::{PAGE, Page, page_after, page_read};
 use edit_ops::Edit;
+use grid_blocks::Blocks;
 use las_survey::Survey;
 use std::alloc::Global;
 use std::marker::Model;
@@ -123,6 +127,33 @@ impl Classes {
         ensures top { IfOk result (λ made. EachFits (format_of survey.now) self.now → EachFits (format_of survey.now) made.0) }
     {
         self.after(alloc, survey, Some(boxes), edit)
+    }
+
+    /// `edited`, which looks only at the records of the blocks whose box the edit's area meets.
+    pub fn edited_by(
+        &self,
+        alloc: Global,
+        survey: &Survey,
+        blocks: &Blocks,
+        edit: &Edit,
+    ) -> Result<(Classes, u64), OutOfMemory>
+        requires blocks { IsBlocks survey.now blocks.now }
+        requires records { length self.now ≡ record_count survey.now }
+        requires room { edit.now.to ≤ meaning.top_class (format_of survey.now) }
+        ensures classes { IfOk result (λ made. made.0 ≡ after_edit survey.now self.now edit.now) }
+        ensures edits { IfOk result (λ made. (edits : List meaning.Edit) → self.now ≡ meaning.classes survey.now edits → made.0 ≡ meaning.classes survey.now (edits ++ edit.now ∷ [])) }
+        ensures count { IfOk result (λ made. made.1 ≡ meaning.changed self.now made.0) }
+        ensures size { IfOk result (λ made. length made.0 ≡ record_count survey.now) }
+        ensures top { IfOk result (λ made. EachFits (format_of survey.now) self.now → EachFits (format_of survey.now) made.0) }
+    {
+        let mut draft = Draft::of(alloc, &self.pages, self.records)?;
+        let mut changed = 0;
+        for k in 0..blocks.count() {
+            changed += reclassify_block(&mut draft, alloc, survey, blocks, k, edit)?;
+        }
+        let pages = draft.into_pages(alloc)?;
+        let records = self.records;
+        Ok((Classes { pages, records }, changed))
     }
 
     /// The classes after an edit, and how many differ from before. A page is looked at where its

@@ -2,8 +2,12 @@
 //! pages, and versions share the pages in which no class differs.
 #![tactic(auto)]
 
+#[cfg(test)]
+mod block_tests;
 mod boxes;
+mod by_blocks;
 mod classes;
+mod draft;
 mod page;
 #[cfg(test)]
 mod tests;

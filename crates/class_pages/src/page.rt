@@ -1,4 +1,4 @@
-ghost use Rattle.std.specs.Prelude.{◌≡◌, ℕ, ◌+◌, ◌<◌, ◌≤◌, ◌^◌, IfOk, IfSome, IfNone, List, [], length, take, drop, slice_index};
+ghost use Rattle.std.specs.Prelude.{◌≡◌, ℕ, ◌+◌, ◌<◌, ◌≤◌, ◌^◌, IfOk, IfSome, IfNone, List, [], length, take, drop, slice_index, slice_set};
 ghost use Rattle.std.specs.Arc.{arc_value};
 ghost use Rattle.class_pages.specs.AfterEdit.{IsAfter, IsSame};
 ghost use Rattle.class_pages.specs.Fitting.{EachFits};
@@ -37,6 +37,23 @@ impl Page {
         ensures { result.now ≡ self.now }
     {
         &self.list
+    }
+
+    /// A page of these classes.
+    pub(crate) fn copied(alloc: Global, classes: &[u8]) -> Result<Page, OutOfMemory>
+        ensures { IfOk result (λ page. page ≡ classes.now) }
+    {
+        let list = Vec::from_slice(alloc, classes)?;
+        Ok(Page { list })
+    }
+
+    /// Gives the class at a place another value.
+    #[inline]
+    pub(crate) fn set(&mut self, place: usize, class: u8)
+        requires { place < length self.old }
+        ensures { self.new ≡ slice_set self.old place class }
+    {
+        self.list[place] = class;
     }
 }
 
@@ -132,7 +149,7 @@ fn reclassify(list: &mut [u8], survey: &Survey, first: u32, edit: &Edit, start: 
 }
 
 /// The class of a record at this place with this class, after an edit.
-fn class_after(edit: &Edit, p: Point, class: u8) -> u8
+pub(crate) fn class_after(edit: &Edit, p: Point, class: u8) -> u8
     ensures { result ≡ meaning.class_after p class edit.now }
 {
     if applies(edit, p, class) {

@@ -11,7 +11,7 @@ use Rattle.sessions.specs.declared.world.World.{World}
 pub record IsScene (scene : Scene) : Type 0 where
   pub some : 1 ≤ scene.workers
   pub few : scene.workers ≤ 64
-  pub blocks : IsBlocks (arc_value scene.survey) scene.blocks
+  pub blocks : IsBlocks (arc_value scene.survey) (arc_value scene.blocks)
 
 -- a world whose store is over the survey of its scene
 pub record IsWorld (world : World) : Type 0 where

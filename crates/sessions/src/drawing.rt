@@ -24,7 +24,7 @@ pub struct Scene {
     /// The survey.
     pub survey: Arc<Survey>,
     /// Its records in blocks. The picture is the same for each way of cutting them.
-    pub blocks: Blocks,
+    pub blocks: Arc<Blocks>,
     /// How many workers draw a picture, 1 to 64. The picture is the same for each number.
     pub workers: u32,
 }

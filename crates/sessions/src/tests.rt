@@ -40,9 +40,9 @@ fn world(alloc: Global) -> Result<(World, Pass), Fail>
     ensures pass { IfOk result (λ r. r.1 ≡ record { gate = r.0.shared.name; who = 0; seen = []; mine = []; turn = None; root = true; out = 0; given = 0; kept = [] }) }
 {
     let survey = survey(alloc)?;
-    let blocks = build(alloc, &survey)?;
+    let blocks = Arc::new(alloc, build(alloc, &survey)?)?;
     let survey = Arc::new(alloc, survey)?;
-    let (shared, root) = Shared::new(alloc, Arc::try_clone(&survey)?)?;
+    let (shared, root) = Shared::over(alloc, Arc::try_clone(&survey)?, Arc::try_clone(&blocks)?)?;
     let scene = Scene {
         survey,
         blocks,

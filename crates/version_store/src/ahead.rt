@@ -8,7 +8,7 @@ ghost use Rattle.version_store.specs.Sharing.{IsAhead};
 ghost use Rattle.version_store.specs.Store.{newest, with_entry};
 ghost use Rattle.version_store.specs.declared.history.What.TheVariants as what;
 
-use crate::paged::PagedSurvey;
+use crate::indexed::IndexedSurvey;
 use crate::store::Store;
 use class_pages::Classes;
 use edit_ops::Edit;
@@ -32,7 +32,7 @@ impl Ahead {
     /// memory.
     pub(crate) fn of(
         alloc: Global,
-        survey: &PagedSurvey,
+        survey: &IndexedSurvey,
         from: Version,
         classes: &Classes,
         edit: &Edit,

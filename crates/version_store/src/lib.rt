@@ -6,7 +6,7 @@
 mod ahead;
 mod held;
 mod history;
-mod paged;
+mod indexed;
 mod pin;
 mod shared;
 #[cfg(test)]

@@ -2,6 +2,7 @@ ghost use Rattle.std.specs.Prelude.{◌≡◌, ◌+◌, ◌-◌, ◌^◌, ◌<�
 ghost use Rattle.std.specs.Arc.{arc_value};
 ghost use mathlib.Core.List.{IsPrefix};
 ghost use Rattle.class_pages.specs.Fitting.{EachFits};
+ghost use Rattle.grid_blocks.specs.Blocks.{IsBlocks};
 ghost use Rattle.turn_gate.specs.Meaning.{longer, made_by};
 ghost use Rattle.version_store.specs.Histories.{journal, HasPinned};
 ghost use Rattle.version_store.specs.Sharing.{IsAhead, IsOwn, MakesOne, MakesNone, changed_by_last, maker};
@@ -11,11 +12,12 @@ ghost use Rattle.view_meaning.specs.Survey.{format_of, record_count};
 
 use crate::ahead::Ahead;
 use crate::history::Entry;
-use crate::paged::PagedSurvey;
+use crate::indexed::IndexedSurvey;
 use crate::pin::Pin;
 use crate::store::Store;
 use class_pages::Classes;
 use edit_ops::Edit;
+use grid_blocks::Blocks;
 use las_survey::Survey;
 use std::alloc::Global;
 use std::marker::Model;
@@ -54,7 +56,7 @@ impl Replayed for Store {
 pub struct Shared {
     alloc: Global,
     gate: Gate<Store>,
-    survey: PagedSurvey,
+    survey: IndexedSurvey,
 }
 
 impl Model for Shared {
@@ -75,7 +77,32 @@ impl Shared {
         ensures pass { IfOk result (λ r. r.1 ≡ record { gate = r.0.name; who = 0; seen = []; mine = []; turn = None; root = true; out = 0; given = 0; kept = [] }) }
         ensures own { IfOk result (λ r. IsOwn r.1) }
     {
-        let store = Store::new(alloc, survey)?;
+        Shared::of(alloc, Store::new(alloc, survey)?)
+    }
+
+    /// A store over a survey and blocks of its records with no entries, and its root pass. An edit
+    /// looks only at the records of the blocks whose box its area meets. The refusal is want of
+    /// memory.
+    pub fn over(
+        alloc: Global,
+        survey: Arc<Survey>,
+        blocks: Arc<Blocks>,
+    ) -> Result<(Shared, Pass), OutOfMemory>
+        requires { IsBlocks (arc_value survey) (arc_value blocks) }
+        ensures bytes { IfOk result (λ r. r.0.bytes ≡ arc_value survey) }
+        ensures pass { IfOk result (λ r. r.1 ≡ record { gate = r.0.name; who = 0; seen = []; mine = []; turn = None; root = true; out = 0; given = 0; kept = [] }) }
+        ensures own { IfOk result (λ r. IsOwn r.1) }
+    {
+        Shared::of(alloc, Store::over(alloc, survey, blocks)?)
+    }
+
+    /// A store that callers share, and its root pass.
+    fn of(alloc: Global, store: Store) -> Result<(Shared, Pass), OutOfMemory>
+        requires { store.history ≡ [] }
+        ensures bytes { IfOk result (λ r. r.0.bytes ≡ store.bytes) }
+        ensures pass { IfOk result (λ r. r.1 ≡ record { gate = r.0.name; who = 0; seen = []; mine = []; turn = None; root = true; out = 0; given = 0; kept = [] }) }
+        ensures own { IfOk result (λ r. IsOwn r.1) }
+    {
         let survey = store.survey().share()?;
         match Gate::new(alloc, store) {
             Ok((gate, pass)) => Ok((

@@ -1,6 +1,7 @@
 ghost use Rattle.std.specs.Prelude.{◌≡◌, ◌≤◌, ◌++◌, ◌∷◌, [], length, map, All, IfOk, OnOk, OnErr};
 ghost use Rattle.std.specs.Arc.{arc_value};
 ghost use Rattle.class_pages.specs.Fitting.{EachFits};
+ghost use Rattle.grid_blocks.specs.Blocks.{IsBlocks};
 ghost use Rattle.view_meaning.specs.Classes as meaning;
 ghost use Rattle.view_meaning.specs.Survey.{record_count, format_of};
 ghost use Rattle.version_store.specs.Histories.{journal, held, IsLegal, HasPinned};
@@ -9,10 +10,11 @@ ghost use Rattle.version_store.specs.declared.history.What.TheVariants as what;
 
 use crate::held::{Held, place_of};
 use crate::history::{Entry, History, What, append};
-use crate::paged::PagedSurvey;
+use crate::indexed::IndexedSurvey;
 use crate::pin::Pin;
-use class_pages::{Classes, base};
+use class_pages::Classes;
 use edit_ops::Edit;
+use grid_blocks::Blocks;
 use las_survey::Survey;
 use std::alloc::Global;
 use std::marker::Model;
@@ -25,7 +27,7 @@ use view_base::{OutOfMemory, Version};
 #[derive(Drop)]
 pub struct Store {
     alloc: Global,
-    survey: PagedSurvey,
+    survey: IndexedSurvey,
     held: Vec<Held>,
     history: Vec<Entry>,
     out: usize,
@@ -48,8 +50,27 @@ impl Store {
     pub fn new(alloc: Global, survey: Arc<Survey>) -> Result<Store, OutOfMemory>
         ensures { IfOk result (λ store. store ≡ record { bytes = arc_value survey; history = [] }) }
     {
-        let classes = Arc::new(alloc, base(alloc, &survey)?)?;
-        let survey = PagedSurvey::new(alloc, survey)?;
+        Store::of(alloc, IndexedSurvey::by_pages(alloc, survey)?)
+    }
+
+    /// The store of a survey and blocks of its records, as `new` makes it. A refusal is want of
+    /// memory. One pass over the records.
+    pub(crate) fn over(
+        alloc: Global,
+        survey: Arc<Survey>,
+        blocks: Arc<Blocks>,
+    ) -> Result<Store, OutOfMemory>
+        requires { IsBlocks (arc_value survey) (arc_value blocks) }
+        ensures { IfOk result (λ store. store ≡ record { bytes = arc_value survey; history = [] }) }
+    {
+        Store::of(alloc, IndexedSurvey::by_blocks(survey, blocks))
+    }
+
+    /// The store of a survey with an index.
+    fn of(alloc: Global, survey: IndexedSurvey) -> Result<Store, OutOfMemory>
+        ensures { IfOk result (λ store. store ≡ record { bytes = survey; history = [] }) }
+    {
+        let classes = Arc::new(alloc, survey.base(alloc)?)?;
         let mut held = Vec::with_capacity(alloc, 1)?;
         held.push(Held {
             version: 0,
@@ -190,8 +211,8 @@ impl Store {
         History::from_vec(self.history)
     }
 
-    /// The survey, with the boxes of its pages.
-    pub(crate) fn survey(&self) -> &PagedSurvey
+    /// The survey, with its index.
+    pub(crate) fn survey(&self) -> &IndexedSurvey
         ensures { result.now ≡ self.now.bytes }
     {
         &self.survey

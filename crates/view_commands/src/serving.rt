@@ -75,9 +75,9 @@ fn make_room<I: Source, O: Sink>(
     ensures room { IfOk result (λ room. count ≤ vec_capacity room.seats) }
     ensures outcomes { IfOk result (λ room. IsRoomFor count room.outcomes) }
 {
-    let blocks = build(alloc, &survey)?;
+    let blocks = Arc::new(alloc, build(alloc, &survey)?)?;
     let survey = Arc::new(alloc, survey)?;
-    let (shared, root) = Shared::new(alloc, Arc::try_clone(&survey)?)?;
+    let (shared, root) = Shared::over(alloc, Arc::try_clone(&survey)?, Arc::try_clone(&blocks)?)?;
     let outcomes = Outcomes::with_room(alloc, count)?;
     let seats = Vec::with_capacity(alloc, count as usize)?;
     Ok(Room {

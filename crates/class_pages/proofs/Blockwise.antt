@@ -1,0 +1,139 @@
+-- An edit that is made of one block's records after another's.
+use Rattle.std.proofs.Common.{◌≡◌, ℕ, zero, suc, ◌+◌, ◌-◌, ◌<◌, ◌≤◌, Bool, true, false, List, [], ◌∷◌, length, get_or, take, drop, map, Some, inl, inr, refl, sym, ◌∙◌, ap, subst, arith, All}
+use Rattle.std.specs.Prelude.{slice_get}
+use Rattle.std.specs.List.{range_with_len}
+use Rattle.std.proofs.lemmas.Bool.{cases_lt}
+use Rattle.std.proofs.lemmas.List.{ext_get_or, get_or_default, get_or-take, get_or-drop, length-take, length-drop}
+use Rattle.std.proofs.lemmas.List.Elements.{All-same, All-take, All-drop}
+use Rattle.std.proofs.lemmas.List.FromFn.{length-range_with_len, get_or-range_with_len}
+use Rattle.std.proofs.lemmas.List.Sorted.{All-permutation}
+use Rattle.view_base.specs.declared.place.Box3.{Box3}
+use Rattle.view_meaning.specs.Survey.{record_count, point_of}
+use Rattle.view_meaning.specs.Classes.{Edit, in_box}
+use Rattle.grid_blocks.specs.declared.block.Block.{Block}
+use Rattle.grid_blocks.specs.Blocks.{Blocked, IsBlocks, part}
+use Rattle.grid_blocks.proofs.Kept.{cut_within}
+use Rattle.grid_blocks.proofs.Laws.{block_of, place_of, within_area}
+use Rattle.grid_blocks.proofs.Once.{length-once, part-range}
+use Rattle.class_pages.specs.AfterEdit.{after_edit}
+use Rattle.class_pages.specs.Boxes.{meets}
+use Rattle.class_pages.specs.Underway.{after_at, IsUnderway, IsMadeOf, IsFurther}
+use Rattle.class_pages.proofs.Areas.{apart}
+use Rattle.class_pages.proofs.Further.{made_outside}
+use Rattle.class_pages.proofs.Versions.{length-after_edit, get_or-after_edit}
+
+-- the block of a number in range
+pub block_at : (blocks : List Block) (k : ℕ) → k < length blocks → (block : Block) × (slice_get blocks k ≡ Some block)
+block_at [] k lt = absurd (omega (arith, lt))
+block_at (block ∷ blocks) zero lt = (block, refl)
+block_at (block ∷ blocks) (suc k) lt = block_at blocks k (omega (arith, lt))
+
+block_lt : (blocks : List Block) (k : ℕ) (block : Block) → slice_get blocks k ≡ Some block → k < length blocks
+block_lt [] k block is = absurd cc
+block_lt (x ∷ blocks) zero block is = omega arith
+block_lt (x ∷ blocks) (suc k) block is = let rest : k < length blocks = block_lt blocks k block is in omega (arith, rest)
+
+-- a number has one block
+pub same_block : (blocks : List Block) (k : ℕ) (x y : Block) → slice_get blocks k ≡ Some x → slice_get blocks k ≡ Some y → x ≡ y
+same_block blocks k x y one two =
+    let both : Some x ≡ Some y = sym one ∙ two in
+    cc
+
+-- each member of a block is a record's number
+pub members_below : (b : List ℕ) (blocked : Blocked) (block : Block) (numbers : List ℕ) → IsBlocks b blocked → numbers ≡ part block blocked.members → All (λ i. i < record_count b) numbers
+members_below b blocked block numbers are is =
+    All-same (λ i. i < record_count b) numbers (part block blocked.members) is
+    (All-take (λ i. i < record_count b) block.count (drop block.first blocked.members)
+    (All-drop (λ i. i < record_count b) block.first blocked.members
+    (All-permutation (λ i. i < record_count b) (range_with_len 0 (record_count b)) blocked.members are.members (range_below (record_count b)))))
+  where
+    range_below : (n : ℕ) → All (λ i. i < n) (range_with_len 0 n)
+    range_below n k d lt =
+        let size = length-range_with_len 0 n in
+        let here : get_or (range_with_len 0 n) k d ≡ 0 + k = get_or-range_with_len 0 n k d (omega (arith, lt, size)) in
+        omega (arith, here, lt, size)
+
+-- the member at a place of a block
+member_at : (members : List ℕ) (block : Block) (j d : ℕ) → j < length (part block members) → get_or (part block members) j d ≡ get_or members (block.first + j) 0
+member_at members block j d lt =
+    let few : j < block.count = let long = length-take block.count (drop block.first members) in omega (arith, lt, long) in
+    get_or_default (part block members) j d 0 lt ∙ get_or-take block.count (drop block.first members) j 0 few ∙ get_or-drop block.first members j 0
+
+-- where a block's box does not meet an area, none of its members lies in the area
+members_outside : (b : List ℕ) (blocked : Blocked) (k : ℕ) (block : Block) (area : Box3) → IsBlocks b blocked → slice_get blocked.blocks k ≡ Some block → meets block.area area ≡ false
+    → All (λ i. in_box area (point_of b i) ≡ false) (part block blocked.members)
+members_outside b blocked k block area are is far = λ j d lt.
+    let few : j < block.count = let long = length-take block.count (drop block.first blocked.members) in omega (arith, lt, long) in
+    subst (λ (i : ℕ). in_box area (point_of b i) ≡ false) (sym (member_at blocked.members block j d lt))
+    (apart block.area area (point_of b (get_or blocked.members (block.first + j) 0)) far (within_area b blocked k (block.first + j) block are is (omega arith) (omega (arith, few))))
+
+-- a block that is passed over
+pub further_unmet : (b : List ℕ) (e : Edit) (old new : List ℕ) (blocked : Blocked) (k : ℕ) (block : Block) → IsBlocks b blocked → length new ≡ record_count b → slice_get blocked.blocks k ≡ Some block → meets block.area e.area ≡ false
+    → IsUnderway b e old new → IsFurther b e old new new (part block blocked.members) 0
+further_unmet b e old new blocked k block are size is far h = record {
+  underway = h;
+  kept = λ i was. was;
+  made = made_outside b e old new (part block blocked.members) h
+      (λ j d lt. let below : get_or (part block blocked.members) j d < record_count b = members_below b blocked block (part block blocked.members) are refl j d lt in omega (arith, below, size, h.size))
+      (members_outside b blocked k block e.area are is far);
+  count = omega arith;
+}
+
+-- the members of a block as their numbers
+pub further_part : (b : List ℕ) (e : Edit) (old mid new numbers : List ℕ) (blocked : Blocked) (block : Block) (changed : ℕ) → numbers ≡ part block blocked.members → IsFurther b e old mid new numbers changed
+    → IsFurther b e old mid new (part block blocked.members) changed
+further_part b e old mid new numbers blocked block changed is h = subst (λ (l : List ℕ). IsFurther b e old mid new l changed) is h
+
+-- where the places are the numbers, a block's members are those from its first place on
+pub part_numbered : (members : List ℕ) (block : Block) → members ≡ range_with_len 0 (length members) → block.first + block.count ≤ length members → range_with_len block.first block.count ≡ part block members
+part_numbered members block are within =
+    sym (ap (λ (l : List ℕ). take block.count (drop block.first l)) are ∙ part-range (length members) block.first block.count within)
+
+-- of the first k blocks' members the classes are those after the edit
+abbrev pub HasMadeBlocks : List ℕ → Edit → List ℕ → Blocked → ℕ → List ℕ → Type 0
+HasMadeBlocks b e old blocked k new = (m : ℕ) (block : Block) → m < k → slice_get blocked.blocks m ≡ Some block → IsMadeOf b e old new (part block blocked.members)
+
+pub blocks_none : (b : List ℕ) (e : Edit) (old : List ℕ) (blocked : Blocked) (new : List ℕ) → HasMadeBlocks b e old blocked 0 new
+blocks_none b e old blocked new = λ m block lt. absurd (omega (arith, lt))
+
+-- one more block's
+pub blocks_more : (b : List ℕ) (e : Edit) (old : List ℕ) (blocked : Blocked) (k next : ℕ) (mid new : List ℕ) (block : Block) → next ≡ k + 1 → slice_get blocked.blocks k ≡ Some block
+    → ((i : ℕ) → get_or mid i 0 ≡ after_at b old e i → get_or new i 0 ≡ after_at b old e i) → IsMadeOf b e old new (part block blocked.members)
+    → HasMadeBlocks b e old blocked k mid → HasMadeBlocks b e old blocked next new
+blocks_more b e old blocked k next mid new block more is kept made h = λ m other lt at. elim (cases_lt m k) [
+  | inl earlier ↦ λ j d within. kept (get_or (part other blocked.members) j d) (h m other earlier at j d within)
+  | inr last ↦
+      let here : k ≡ m = omega (arith, lt, more, last) in
+      let both : Some block ≡ Some other = sym is ∙ ap (slice_get blocked.blocks) here ∙ at in
+      let same : block ≡ other = cc in
+      subst (λ (x : Block). IsMadeOf b e old new (part x blocked.members)) same made
+]
+
+-- a record's class, once all blocks' are made
+made_at : (b : List ℕ) (e : Edit) (old new : List ℕ) (blocked : Blocked) (k i : ℕ) → IsBlocks b blocked → k ≡ length blocked.blocks → HasMadeBlocks b e old blocked k new → i < record_count b → get_or new i 0 ≡ after_at b old e i
+made_at b e old new blocked k i are last h lt =
+    let place = place_of b blocked i are lt in
+    let found = block_of 0 blocked.blocks (record_count b) place.0 are.cut.follow (omega arith) place.1 in
+    let block : Block = found.1 in
+    let here : found.0 < length blocked.blocks = block_lt blocked.blocks found.0 block found.2 in
+    let long : length blocked.members ≡ record_count b = length-once (record_count b) blocked.members are.members in
+    let end : block.first + block.count ≤ record_count b = cut_within blocked.blocks (record_count b) found.0 block are.cut here found.2 in
+    let dropped : length (drop block.first blocked.members) ≡ length blocked.members - block.first = length-drop block.first blocked.members in
+    let taken = length-take block.count (drop block.first blocked.members) in
+    let from : block.first ≤ place.0 = found.3 in
+    let upto : place.0 < block.first + block.count = found.4 in
+    let within : place.0 - block.first < length (part block blocked.members) = omega (arith, from, upto, long, end, dropped, taken) in
+    let there : block.first + (place.0 - block.first) ≡ place.0 = omega (arith, from) in
+    let is : get_or (part block blocked.members) (place.0 - block.first) 0 ≡ i = member_at blocked.members block (place.0 - block.first) 0 within ∙ ap (λ (m : ℕ). get_or blocked.members m 0) there ∙ place.2 in
+    subst (λ (m : ℕ). get_or new m 0 ≡ after_at b old e m) is (h found.0 block (omega (arith, here, last)) found.2 (place.0 - block.first) 0 within)
+
+-- once all blocks' are made, the classes are those after the edit
+pub made_is : (b : List ℕ) (e : Edit) (old new : List ℕ) (blocked : Blocked) (k : ℕ) → IsBlocks b blocked → length old ≡ record_count b → k ≡ length blocked.blocks → IsUnderway b e old new → HasMadeBlocks b e old blocked k new → new ≡ after_edit b old e
+made_is b e old new blocked k are size last underway h =
+    ext_get_or 0 new (after_edit b old e) (underway.size ∙ sym (length-after_edit b old e))
+    (λ i lt. let within : i < length old = omega (arith, lt, underway.size) in
+    made_at b e old new blocked k i are last h (omega (arith, within, size)) ∙ sym (get_or-after_edit b old e i within))
+
+-- before the first block nothing is made
+pub underway_none : (b : List ℕ) (e : Edit) (old new : List ℕ) → new ≡ old → IsUnderway b e old new
+underway_none b e old new is = record { size = ap length is; each = λ i lt. inl (ap (λ (l : List ℕ). get_or l i 0) is) }

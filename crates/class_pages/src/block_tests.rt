@@ -1,0 +1,157 @@
+//! Edits by blocks. Neighbours in space are far apart in number: record i is at (7919 i modulo the
+//! number of records, 0, 0).
+ghost use Rattle.grid_blocks.specs.Blocks.{IsBlocks};
+
+use crate::tests::{RECORDS, are, are_all, drawn_edit, edit_of, survey};
+use crate::{Classes, base};
+use edit_ops::Edit;
+use grid_blocks::{Blocks, build, build_by_number};
+use las_survey::Survey;
+use std::alloc::Global;
+use std::process::Abort;
+use std::sync::Arc;
+use std::test::Fail;
+
+const STEP: u32 = 7919;
+
+/// The classes after an edit by blocks, of which so many change.
+fn edited(
+    rt: &impl Abort,
+    alloc: Global,
+    survey: &Survey,
+    blocks: &Blocks,
+    classes: &Classes,
+    edit: &Edit,
+    wanted: u64,
+) -> Result<Classes, Fail>
+    requires { IsBlocks survey.now blocks.now }
+{
+    assert!(rt; edit.to <= 31);
+    assert_eq!(rt; classes.len() as u64, u64::from(survey.records()));
+    let (made, changed) = classes.edited_by(alloc, survey, blocks, edit)?;
+    assert_eq!(rt; changed, wanted);
+    Ok(made)
+}
+
+/// Makes an edit of a plain list, whose item i is the class of record i, and answers how many
+/// classes changed.
+fn edit_plain(plain: &mut [u8], edit: &Edit) -> u64 {
+    let mut changed = 0u64;
+    for i in 0..plain.len() {
+        let x = (i as u64).wrapping_mul(u64::from(STEP)) % u64::from(RECORDS);
+        let inside = edit.area.min.x <= x as i32 && x as i32 <= edit.area.max.x;
+        if inside && edit.from.has(plain[i]) {
+            changed = changed.wrapping_add(u64::from(plain[i] != edit.to));
+            plain[i] = edit.to;
+        }
+    }
+    changed
+}
+
+/// Makes a hundred edits of the newest classes and of the plain list.
+fn edit_often(
+    rt: &impl Abort,
+    alloc: Global,
+    survey: &Survey,
+    blocks: &Blocks,
+    newest: &mut Classes,
+    plain: &mut [u8],
+) -> Result<(), Fail>
+    requires { IsBlocks survey.now blocks.now }
+{
+    let mut seed = 11;
+    for _ in 0..100 {
+        let edit = drawn_edit(&mut seed)?;
+        let wanted = edit_plain(plain, &edit);
+        *newest = edited(rt, alloc, survey, blocks, newest, &edit, wanted)?;
+    }
+    Ok(())
+}
+
+/// Whether a version from many edits after these classes has those of a plain list.
+fn edits_are_plain(
+    rt: &impl Abort,
+    alloc: Global,
+    survey: &Survey,
+    read: &Classes,
+) -> Result<bool, Fail> {
+    let blocks = build(alloc, survey)?;
+    let none = edit_of(b"edit 0 0 0 0 0 0 9 6")?;
+    let mut plain = vec![in alloc; 2u8; 100000]?;
+    let mut newest = edited(rt, alloc, survey, &blocks, read, &none, 0)?;
+    edit_often(rt, alloc, survey, &blocks, &mut newest, &mut plain)?;
+    Ok(are(&newest, &plain))
+}
+
+/// The version from before the edits has its own classes afterwards.
+#[test]
+fn edits_by_blocks_are_edits_of_a_plain_list(rt: HostRuntime) -> Result<(), Fail> {
+    let survey = survey(rt.alloc(), RECORDS, STEP)?;
+    let read = base(rt.alloc(), &survey)?;
+    let plain = edits_are_plain(&rt, rt.alloc(), &survey, &read)?;
+    assert_eq!(rt; (plain, are_all(&read, 2)), (true, true));
+    Ok(())
+}
+
+/// Whether an edit of all records gives each of them its class, and leaves the version before as it
+/// was.
+fn all_change(
+    rt: &impl Abort,
+    alloc: Global,
+    survey: &Survey,
+    blocks: &Blocks,
+) -> Result<bool, Fail>
+    requires { IsBlocks survey.now blocks.now }
+{
+    let read = base(alloc, survey)?;
+    let all = edit_of(b"edit 0 0 0 9000 0 0 2 6")?;
+    let wanted = u64::from(survey.records());
+    let made = edited(rt, alloc, survey, blocks, &read, &all, wanted)?;
+    Ok(are_all(&read, 2) & are_all(&made, 6))
+}
+
+/// Whether all of so many records change, by blocks of either kind.
+fn all_change_twice(rt: &impl Abort, alloc: Global, records: u32) -> Result<bool, Fail> {
+    let survey = survey(alloc, records, STEP)?;
+    let by_cells = all_change(rt, alloc, &survey, &build(alloc, &survey)?)?;
+    let by_number = all_change(rt, alloc, &survey, &build_by_number(alloc, &survey)?)?;
+    Ok(by_cells & by_number)
+}
+
+#[test]
+fn an_edit_by_blocks_reaches_every_page(rt: HostRuntime) -> Result<(), Fail> {
+    for records in [0, 1, 4095, 4096, 8193] {
+        let all = all_change_twice(&rt, rt.alloc(), records)?;
+        assert!(rt; all);
+    }
+    Ok(())
+}
+
+/// Which of the first two pages two versions have at one address.
+fn shared(rt: &impl Abort, one: &Classes, two: &Classes) -> [bool; 2] {
+    assert_eq!(rt; (one.pages(), two.pages()), (2, 2));
+    [
+        Arc::as_ptr(one.page(0)) == Arc::as_ptr(two.page(0)),
+        Arc::as_ptr(one.page(1)) == Arc::as_ptr(two.page(1)),
+    ]
+}
+
+/// Which pages of 8192 records stay shared by an edit of record 0 alone, and by one that gives every
+/// record the class that it has.
+fn shared_by_two(rt: &impl Abort, alloc: Global, survey: &Survey) -> Result<[[bool; 2]; 2], Fail> {
+    let blocks = build(alloc, survey)?;
+    let read = base(alloc, survey)?;
+    let first = edit_of(b"edit 0 0 0 0 0 0 2 6")?;
+    let none = edit_of(b"edit 0 0 0 9000 0 0 2 2")?;
+    let one = edited(rt, alloc, survey, &blocks, &read, &first, 1)?;
+    let two = edited(rt, alloc, survey, &blocks, &read, &none, 0)?;
+    Ok([shared(rt, &read, &one), shared(rt, &read, &two)])
+}
+
+#[test]
+fn an_edit_by_blocks_shares_the_pages_that_it_leaves(rt: HostRuntime) -> Result<(), Fail> {
+    let survey = survey(rt.alloc(), 8192, STEP)?;
+    let got = shared_by_two(&rt, rt.alloc(), &survey)?;
+    assert_eq!(rt; got, [[false, true], [true, true]]);
+    Ok(())
+}
