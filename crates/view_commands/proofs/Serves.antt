@@ -10,7 +10,7 @@ use Rattle.view_words.specs.declared.row.Row.TheVariants.{Serve}
 use Rattle.view_words.proofs.RowNames.{in_not_survey}
 use Rattle.view_commands.specs.declared.places.TheConstants.{SURVEY, JOURNAL}
 use Rattle.view_commands.specs.declared.status.Status as status
-use Rattle.view_commands.specs.declared.status.Status.TheVariants.{Done, Words, Limit, NoColour, OpenFault, ReadFault, TooLong, Survey, WriteFault, SessionLimit, Memory, NotYet}
+use Rattle.view_commands.specs.declared.status.Status.TheVariants.{Done, Words, Limit, NoColour, OpenFault, ReadFault, TooLong, Survey, WriteFault, SessionLimit, Memory}
 use Rattle.view_commands.specs.declared.told.Ended.{Ended}
 use Rattle.view_commands.specs.Serve.{input, output, HasPair, IsCalm, IsNothing, Empties, NotOpened, ServesLine}
 use Rattle.view_commands.specs.Steps.{OnlyInputs, RefusesOpening, RunsAll, ServesIn}
@@ -103,7 +103,6 @@ refused-before old mid new survey ws n TooLong took none = absurd none
 refused-before old mid new survey ws n (Survey told) took none = absurd none
 refused-before old mid new survey ws n (WriteFault at) took none = absurd none
 refused-before old mid new survey ws n (SessionLimit at) took none = absurd none
-refused-before old mid new survey ws n NotYet took none = absurd none
 
 -- a survey was read, and then not all was opened
 serves-refused : (tells : Bool) (old mid new : Said) (ws : List (List ℕ)) (b : List ℕ) (n : ℕ) (ended : Ended) → IsLine Serve ws → length ws ≡ 4 + 2 * n → IsLaid b → IsReadWhole tells old mid (word_at ws SURVEY) b → OnlyTook old mid (word_at ws SURVEY)

@@ -23,8 +23,8 @@ use Rattle.view_words.proofs.RowNames.{in_not_survey, out_not_journal}
 use Rattle.view_commands.specs.declared.places.TheConstants.{SURVEY, JOURNAL}
 use Rattle.view_commands.specs.declared.told.Ended.{Ended}
 use Rattle.view_commands.specs.Serve.{input, output, HasPair, RunsSession, RunsSessions}
-use Rattle.view_commands.specs.Steps.{EachFrom, FinishesRun, OnlyInputs, OnlyWrote, OpensAll, RunsAll, Seated}
-use Rattle.view_commands.specs.Texts.{OnlyTook}
+use Rattle.view_commands.specs.Steps.{EachFrom, FinishesRun, OnlyInputs, OpensAll, RunsAll, Seated}
+use Rattle.view_commands.specs.Texts.{OnlyTook, OnlyWrote}
 use Rattle.view_commands.proofs.Begun.{WasServed, served-each}
 use Rattle.view_commands.proofs.Faults.{kept_file}
 use Rattle.view_commands.proofs.Finished.{AreFinished, IsFinished, finished-after, finished-all, finished-before}

@@ -120,7 +120,6 @@ not_opened-settles old new ws n state.TooLong none calm journal = absurd none
 not_opened-settles old new ws n (state.Survey told) none calm journal = absurd none
 not_opened-settles old new ws n (state.WriteFault at) none calm journal = absurd none
 not_opened-settles old new ws n (state.SessionLimit at) none calm journal = absurd none
-not_opened-settles old new ws n state.NotYet none calm journal = absurd none
 
 finished-first : (at : ℕ) (reasons : List reason.Reason) (last : status.Status) → first_fault at reasons last ≡ state.Done → (k : ℕ) (one : reason.Reason) → slice_get reasons k ≡ Some one → one ≡ Finished
 finished-first at [] last done k one is = absurd (cc is)
