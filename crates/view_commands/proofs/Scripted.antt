@@ -3,7 +3,7 @@ use Rattle.std.proofs.Common.{◌≡◌, ℕ, List, [], ◌∷◌, ◌++◌, len
 use Rattle.std.specs.Prelude.{codes}
 use Rattle.std.specs.Arc.{arc_value}
 use Rattle.std.proofs.lemmas.List.{append-nil}
-use Rattle.class_bits.specs.ClassSet.{class_list}
+use Rattle.class_bits.specs.ClassSet.{class_list, item_range}
 use Rattle.edit_ops.specs.EditLine as edit_line
 use Rattle.edit_ops.specs.EditLine.{coordinate, edit_of}
 use Rattle.int_camera.specs.Limits.{first_outside, is_outside}
@@ -56,7 +56,7 @@ unfolding command_of command_of_words words view_of misfit view_words.fits kind 
 shows-in_perspective = (tt, refl)
 
 pub shows-count : IsShown (command_of count FORMAT)
-unfolding command_of command_of_words words filter_of misfit digits fits_filter class_list hides filter_at
+unfolding command_of command_of_words words filter_of misfit digits fits_filter class_list item_range hides filter_at
 shows-count = (tt, refl)
 
 -- and the second is the edit
