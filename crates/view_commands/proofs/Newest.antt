@@ -1,6 +1,6 @@
 -- Replies under the newest version of a store.
-use Rattle.std.proofs.Common.{◌≡◌, ℕ, ◌+◌, ◌-◌, ◌<◌, List, [], ◌∷◌, ◌++◌, length, take, Ok, refl, sym, ap, subst, ◌∙◌, arith}
-use Rattle.std.specs.Prelude.{codes}
+use Rattle.std.proofs.Common.{◌≡◌, ℕ, ◌+◌, ◌-◌, ◌<◌, List, [], ◌∷◌, ◌++◌, length, take, Ok, Err, refl, sym, ap, subst, ◌∙◌, arith}
+use Rattle.std.specs.Prelude.{codes, Result, OnOk}
 use Rattle.std.proofs.lemmas.Bool.{eq-eqb}
 use Rattle.std.proofs.lemmas.List.{append-nil, take_all, take_at, length_push}
 use Rattle.sessions.specs.Lines.{Item}
@@ -16,6 +16,11 @@ use Rattle.version_store.specs.Store.{Stored, newest, with_entry}
 use Rattle.version_store.proofs.HistoryLaws.{how_many_by, once, journal-publish, journal-pin, journal-unpin, pins-pin, unpins-pin}
 use Rattle.version_store.proofs.PinsOut.{legal-given}
 use Rattle.view_commands.specs.Steps.{Answers, IsStage, edits_in}
+
+-- what follows from what holds where a result is Ok holds there too
+pub on_ok-then : {T E : Type 0} (result : Result T E) (P Q : Type 0) → (P → Q) → OnOk result P → OnOk result Q
+on_ok-then (Ok done) P Q then holds = then holds
+on_ok-then (Err fault) P Q then holds = tt
 
 -- the classes after all edits, and after all but the last
 version-all : (b : List ℕ) (edits : List meaning.Edit) → version b edits (length edits) ≡ classes b edits

@@ -81,7 +81,8 @@ fn answer_view<R: Threads + Sync, B: Beside>(
     ensures { OnOk result (Answers store.old store.new (Ok (command.View view.now)) out.old.items out.new.items) }
 {
     let pin = store.pin(CALLER)?;
-    let (classes, version) = (pin.classes(), pin.version());
+    let version = pin.version();
+    let classes = pin.classes();
     let drawn = append_picture(alloc, rt, scene, classes, version, view, beside, out);
     store.unpin(CALLER, pin);
     drawn

@@ -11,6 +11,7 @@ const LINE: usize = 29;
 
 /// The text that a trial writes: how many records and bytes its survey has, and how many bytes the
 /// replies, and their sum modulo 2^64, each in a line.
+#[tactic(auto, unfolding(crate::specs::Trial::sums))]
 pub(crate) fn summary_text(
     alloc: Global,
     records: u32,

@@ -62,7 +62,9 @@ fn trial_line<R: Threads + Sync, D: Desk, B: Beside>(
     requires long { 5 ≤ length words.now }
     ensures { TriesLine D.tells (D.says desk.old) (D.says desk.new) (texts words.now) result }
 {
-    let (start, records, workers) = (start(words), records(words), workers(Row::Trial, words));
+    let start = start(words);
+    let records = records(words);
+    let workers = workers(Row::Trial, words);
     let out = text_at(words, TRIAL_OUT as usize);
     trial_file(alloc, rt, start, records, workers, out, desk, beside)
 }
@@ -89,6 +91,7 @@ fn trial_file<R: Threads + Sync, D: Desk, B: Beside>(
 }
 
 /// The summary of so many records that are made of a number.
+#[tactic(auto, unfolding(crate::specs::Trial::summary))]
 fn summary_of<R: Threads + Sync, B: Beside>(
     alloc: Global,
     rt: &R,
@@ -118,7 +121,9 @@ fn made_survey(alloc: Global, start: u64, records: u32) -> Result<Survey, OutOfM
         Ok(survey) => Ok(survey),
         Err(fault) => match fault {
             LoadFault::Memory => Err(OutOfMemory),
-            LoadFault::ReadFault | LoadFault::TooLong | LoadFault::Survey(_) => unreachable!(),
+            LoadFault::ReadFault => unreachable!(),
+            LoadFault::TooLong => unreachable!(),
+            LoadFault::Survey(_) => unreachable!(),
         },
     }
 }
