@@ -5,7 +5,7 @@ use Rattle.std.proofs.lemmas.Bool.{eq-eqb}
 use Rattle.std.proofs.lemmas.List.{append-nil, take_all, take_at, length_push}
 use Rattle.sessions.specs.Lines.{Item}
 use Rattle.sessions.specs.Replies.{version, head, with_length, reply}
-use Rattle.view_lines.specs.declared.command.Command.TheVariants.{View, Edit, Count}
+use Rattle.view_lines.specs.declared.command.Command.TheVariants as command
 use Rattle.view_meaning.specs.Classes as meaning
 use Rattle.view_meaning.specs.Classes.{changed, classes, passing}
 use Rattle.view_meaning.specs.Picture.{View, picture}
@@ -59,7 +59,7 @@ answers-shown old mid new by v item before after pinned unpinned legal none repl
 
 -- a view's reply
 pub reply-view : (s : Stored) (view : View) (v : ℕ) (b cs before after : List ℕ) → b ≡ s.bytes → v ≡ length (journal s.history) → cs ≡ newest s
-    → after ≡ before ++ with_length (codes "PICTURE") v (picture b cs view) → after ≡ before ++ reply s.bytes (journal s.history) (Ok (View view)) (length (journal s.history))
+    → after ≡ before ++ with_length (codes "PICTURE") v (picture b cs view) → after ≡ before ++ reply s.bytes (journal s.history) (Ok (command.View view)) (length (journal s.history))
 unfolding reply
 reply-view s view v b cs before after bytes is shown appended =
     let edits = journal s.history in
@@ -70,7 +70,7 @@ reply-view s view v b cs before after bytes is shown appended =
 
 -- a count's
 pub reply-count : (s : Stored) (filter : meaning.Filter) (v : ℕ) (b cs before after : List ℕ) → b ≡ s.bytes → v ≡ length (journal s.history) → cs ≡ newest s
-    → after ≡ before ++ head (codes "COUNT") v (passing b cs filter) → after ≡ before ++ reply s.bytes (journal s.history) (Ok (Count filter)) (length (journal s.history))
+    → after ≡ before ++ head (codes "COUNT") v (passing b cs filter) → after ≡ before ++ reply s.bytes (journal s.history) (Ok (command.Count filter)) (length (journal s.history))
 unfolding reply
 reply-count s filter v b cs before after bytes is shown appended =
     let edits = journal s.history in
@@ -81,7 +81,7 @@ reply-count s filter v b cs before after bytes is shown appended =
 
 -- an edit's, which published it
 pub answers-edit : (old new : Stored) (by v n : ℕ) (edit : meaning.Edit) (before after : List ℕ) → new ≡ with_entry old by (what.Publish edit) → IsLegal new.history
-    → v ≡ length (journal new.history) → n ≡ changed (newest old) (newest new) → after ≡ before ++ head (codes "EDITED") v n → Answers old new (Ok (Edit edit)) before after
+    → v ≡ length (journal new.history) → n ≡ changed (newest old) (newest new) → after ≡ before ++ head (codes "EDITED") v n → Answers old new (Ok (command.Edit edit)) before after
 unfolding reply
 answers-edit old new by v n edit before after published legal is counted appended =
     let bytes : new.bytes ≡ old.bytes = ap (λ (s : Stored). s.bytes) published in

@@ -1,4 +1,4 @@
-ghost use Rattle.std.specs.Prelude.{◌≡◌, ◌≤◌, Ok, OnOk};
+ghost use Rattle.std.specs.Prelude.{◌≡◌, ◌≤◌, true, Ok, OnOk};
 ghost use Rattle.view_lines.specs.Command.{FitsFormat, command_of};
 ghost use Rattle.view_lines.specs.declared.command.Command.TheVariants as command;
 ghost use Rattle.view_meaning.specs.Classes.{top_class};

@@ -7,9 +7,9 @@ use Rattle.view_meaning.specs.Classes.{passing}
 use Rattle.view_commands.proofs.Newest.{HasPinned-newest, answers-shown, reply-count}
 use Rattle.view_commands.proofs.storing.answer_count.Goals as goal
 
-pub unpin-requires-clause-pinned : goal.unpin-requires-clause-pinned
-unpin-requires-clause-pinned c =
-    HasPinned-newest c.args.store.now c.pin.new.self 1 c.in_ok-pin.pin.version c.in_ok-pin.ensures.pinned (ap (λ (p : Pinned). p.version) c.in_ok-pin.ensures.pin) c.requires.stage.legal
+pub unpin-requires : goal.unpin-requires
+unpin-requires c =
+    record { pinned = HasPinned-newest c.args.store.now c.pin.new.self 1 c.in_ok-pin.pin.version c.in_ok-pin.ensures.pinned (ap (λ (p : Pinned). p.version) c.in_ok-pin.ensures.pin) c.requires.stage.legal }
 
 pub returns : goal.returns
 returns c =

@@ -9,9 +9,9 @@ use Rattle.view_commands.specs.Steps.{Answers}
 use Rattle.view_commands.proofs.Newest.{HasPinned-newest, answers-shown, on_ok-then, reply-view}
 use Rattle.view_commands.proofs.storing.answer_view.Goals as goal
 
-pub unpin-requires-clause-pinned : goal.unpin-requires-clause-pinned
-unpin-requires-clause-pinned g c =
-    HasPinned-newest c.args.store.now c.pin.new.self 1 c.in_ok-pin.pin.version c.in_ok-pin.ensures.pinned (ap (λ (p : Pinned). p.version) c.in_ok-pin.ensures.pin) c.requires.stage.legal
+pub unpin-requires : goal.unpin-requires
+unpin-requires g c =
+    record { pinned = HasPinned-newest c.args.store.now c.pin.new.self 1 c.in_ok-pin.pin.version c.in_ok-pin.ensures.pinned (ap (λ (p : Pinned). p.version) c.in_ok-pin.ensures.pin) c.requires.stage.legal }
 
 pub returns : goal.returns
 returns g c =
