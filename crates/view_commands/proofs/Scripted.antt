@@ -1,5 +1,5 @@
 -- The lines of a trial, read and answered one after another.
-use Rattle.std.proofs.Common.{◌≡◌, ℕ, List, [], ◌∷◌, ◌++◌, length, Ok, refl, sym, ap, ◌∙◌, arith}
+use Rattle.std.proofs.Common.{◌≡◌, ℕ, List, [], ◌∷◌, ◌++◌, length, Ok, refl, sym, ap, ◌∙◌, arith, append_assoc}
 use Rattle.std.specs.Prelude.{codes}
 use Rattle.std.specs.Arc.{arc_value}
 use Rattle.std.proofs.lemmas.List.{append-nil}
@@ -104,8 +104,11 @@ replies-four b edit first second third fourth s0 s1 s2 s3 s4 o0 o1 o2 o3 o4 byte
     let r2 : o2 ≡ o1 ++ reply b one_edit second 1 = replied-with b one_edit s1 s2 second o1 o2 b2 j2 a2 in
     let r3 : o3 ≡ o2 ++ reply b one_edit third 1 = replied-with b one_edit s2 s3 third o2 o3 b3 j3 a3 in
     let r4 : o4 ≡ o3 ++ reply b one_edit fourth 1 = replied-with b one_edit s3 s4 fourth o3 o4 b4 j4 a4 in
-    append_4 o0 o1 o2 o3 o4 (reply b one_edit first 0) (reply b one_edit second 1) (reply b one_edit third 1) (reply b one_edit fourth 1) r1 r2 r3 r4
-    ∙ ap (λ (l : List ℕ). o0 ++ (reply b one_edit first 0 ++ (reply b one_edit second 1 ++ (reply b one_edit third 1 ++ l)))) (sym (append-nil (reply b one_edit fourth 1)))
+    let r = reply b one_edit in
+    append_4 o0 o1 o2 o3 o4 (r first 0) (r second 1) (r third 1) (r fourth 1) r1 r2 r3 r4
+    ∙ ap (λ (l : List ℕ). o0 ++ l)
+    (append_assoc (r first 0 ++ r second 1) (r third 1) (r fourth 1) ∙ append_assoc (r first 0) (r second 1) (r third 1 ++ r fourth 1)
+    ∙ ap (λ (l : List ℕ). r first 0 ++ (r second 1 ++ (r third 1 ++ l))) (sym (append-nil (r fourth 1))))
 
 -- the replies to the lines of a trial
 pub script_replies-given : (b : List ℕ) (s0 s1 s2 s3 s4 : Stored) (o0 o1 o2 o3 o4 : List ℕ) → s0.bytes ≡ b → s0.history ≡ []

@@ -5,7 +5,7 @@ use Rattle.view_commands.specs.Steps.{Answers, CanAnswer}
 use Rattle.view_commands.proofs.storing.answer_line.Goals as goal
 
 pub answer_command-requires-clause-command : goal.answer_command-requires-clause-command
-answer_command-requires-clause-command g c = subst CanAnswer (sym c.read_command.ensures.command ∙ c.in-Ok.is) c.requires.line
+answer_command-requires-clause-command g c _ _ = subst CanAnswer (sym c.read_command.ensures.command ∙ c.in-Ok.is) c.requires.line
 
 pub returns : goal.returns
 returns g c =

@@ -9,27 +9,27 @@ use Rattle.view_commands.proofs.Scripted.{from_above, reclassify, in_perspective
 use Rattle.view_commands.proofs.trying.append_replies.Goals as goal
 
 pub answer_line-requires-clause-line : goal.answer_line-requires-clause-line
-answer_line-requires-clause-line g c = shows-from_above.0
+answer_line-requires-clause-line g c _ _ = shows-from_above.0
 
 pub answer_line-requires-2-clause-line : goal.answer_line-requires-2-clause-line
-answer_line-requires-2-clause-line g c = can_answer-reclassify
+answer_line-requires-2-clause-line g c _ _ = can_answer-reclassify
 
 pub answer_line-requires-3-clause-line : goal.answer_line-requires-3-clause-line
-answer_line-requires-3-clause-line g c = shows-in_perspective.0
+answer_line-requires-3-clause-line g c _ _ = shows-in_perspective.0
 
 pub answer_line-requires-4-clause-line : goal.answer_line-requires-4-clause-line
-answer_line-requires-4-clause-line g c = shows-count.0
+answer_line-requires-4-clause-line g c _ _ = shows-count.0
 
 pub answer_line-requires-2-clause-stage : goal.answer_line-requires-2-clause-stage
-answer_line-requires-2-clause-stage g c = stage-next c.args.scene.now c.args.store.now c.answer_line.new.store (command_of from_above FORMAT) _ _ c.requires.stage c.in_ok-answer_line.ensures
+answer_line-requires-2-clause-stage g c _ _ = stage-next c.args.scene.now c.args.store.now c.answer_line.new.store (command_of from_above FORMAT) _ _ c.requires.stage c.in_ok-answer_line.ensures
 
 pub answer_line-requires-3-clause-stage : goal.answer_line-requires-3-clause-stage
-answer_line-requires-3-clause-stage g c =
+answer_line-requires-3-clause-stage g c _ _ =
     stage-next c.args.scene.now c.answer_line.new.store c.answer_line-2.new.store (command_of reclassify FORMAT) _ _
     (stage-next c.args.scene.now c.args.store.now c.answer_line.new.store (command_of from_above FORMAT) _ _ c.requires.stage c.in_ok-answer_line.ensures) c.in_ok-answer_line-2.ensures
 
 pub answer_line-requires-4-clause-stage : goal.answer_line-requires-4-clause-stage
-answer_line-requires-4-clause-stage g c =
+answer_line-requires-4-clause-stage g c _ _ =
     stage-next c.args.scene.now c.answer_line-2.new.store c.answer_line-3.new.store (command_of in_perspective FORMAT) _ _
     (stage-next c.args.scene.now c.answer_line.new.store c.answer_line-2.new.store (command_of reclassify FORMAT) _ _
     (stage-next c.args.scene.now c.args.store.now c.answer_line.new.store (command_of from_above FORMAT) _ _ c.requires.stage c.in_ok-answer_line.ensures) c.in_ok-answer_line-2.ensures) c.in_ok-answer_line-3.ensures
