@@ -1,5 +1,5 @@
 -- Replies under the newest version of a store.
-use Rattle.std.proofs.Common.{◌≡◌, ℕ, ◌+◌, ◌-◌, ◌<◌, List, [], ◌∷◌, ◌++◌, length, take, Ok, Err, refl, sym, ap, subst, ◌∙◌, arith}
+use Rattle.std.proofs.Common.{◌≡◌, ℕ, ◌-◌, List, [], ◌∷◌, ◌++◌, length, Ok, Err, refl, sym, ap, subst, ◌∙◌, arith}
 use Rattle.std.specs.Prelude.{codes, Result, OnOk}
 use Rattle.std.proofs.lemmas.Bool.{eq-eqb}
 use Rattle.std.proofs.lemmas.List.{append-nil, take_all, take_at, length_push}
@@ -9,13 +9,12 @@ use Rattle.view_lines.specs.declared.command.Command.TheVariants as command
 use Rattle.view_meaning.specs.Classes as meaning
 use Rattle.view_meaning.specs.Classes.{changed, classes, passing}
 use Rattle.view_meaning.specs.Picture.{View, picture}
-use Rattle.version_store.specs.declared.history.Entry.{Entry}
 use Rattle.version_store.specs.declared.history.What.TheVariants as what
-use Rattle.version_store.specs.Histories.{journal, is_pin, is_unpin, IsLegal, HasPinned}
+use Rattle.version_store.specs.Histories.{journal, IsLegal, HasPinned}
 use Rattle.version_store.specs.Store.{Stored, newest, with_entry}
-use Rattle.version_store.proofs.HistoryLaws.{how_many_by, once, journal-publish, journal-pin, journal-unpin, pins-pin, unpins-pin}
+use Rattle.version_store.proofs.HistoryLaws.{once, journal-publish, journal-pin, journal-unpin, pins-pin, unpins-pin}
 use Rattle.version_store.proofs.PinsOut.{legal-given}
-use Rattle.view_commands.specs.Steps.{Answers, IsStage, edits_in}
+use Rattle.view_commands.specs.Steps.{Answers, edits_in}
 
 -- what follows from what holds where a result is Ok holds there too
 pub on_ok-then : {T E : Type 0} (result : Result T E) (P Q : Type 0) → (P → Q) → OnOk result P → OnOk result Q
@@ -53,8 +52,8 @@ answers-shown old mid new by v item before after pinned unpinned legal none repl
       edits = same ∙ sym (append-nil (journal old.history)) ∙ ap (λ (l : List meaning.Edit). journal old.history ++ l) (sym none);
       legal = legal;
       replied = replied
-      ∙ ap (λ (b : List ℕ). before ++ reply b (journal old.history) item (length (journal old.history))) (sym bytes)
-      ∙ ap (λ (l : List meaning.Edit). before ++ reply new.bytes l item (length l)) (sym same);
+          ∙ ap (λ (b : List ℕ). before ++ reply b (journal old.history) item (length (journal old.history))) (sym bytes)
+          ∙ ap (λ (l : List meaning.Edit). before ++ reply new.bytes l item (length l)) (sym same);
     }
 
 -- a view's reply
@@ -96,6 +95,6 @@ answers-edit old new by v n edit before after published legal is counted appende
       edits = edits;
       legal = legal;
       replied = appended
-      ∙ ap (λ (m : ℕ). before ++ head (codes "EDITED") m n) is
-      ∙ ap (λ (m : ℕ). before ++ head (codes "EDITED") (length (journal new.history)) m) (counted ∙ ap (λ (cs : List ℕ). changed cs (newest new)) earlier ∙ ap (λ (cs : List ℕ). changed (version new.bytes (journal new.history) (length (journal new.history) - 1)) cs) later);
+          ∙ ap (λ (m : ℕ). before ++ head (codes "EDITED") m n) is
+          ∙ ap (λ (m : ℕ). before ++ head (codes "EDITED") (length (journal new.history)) m) (counted ∙ ap (λ (cs : List ℕ). changed cs (newest new)) earlier ∙ ap (λ (cs : List ℕ). changed (version new.bytes (journal new.history) (length (journal new.history) - 1)) cs) later);
     }

@@ -1,8 +1,8 @@
 -- What the openings of the names of a `serve` leave, one after another.
-use Rattle.std.proofs.Common.{◌≡◌, ◌≢◌, ℕ, suc, ◌+◌, ◌*◌, ◌-◌, ◌^◌, ◌<◌, ◌≤◌, List, [], ◌∷◌, ◌++◌, Bool, length, refl, sym, ◌∙◌, ap, subst, arith, Option, None, false, inl, inr, length-append}
+use Rattle.std.proofs.Common.{◌≡◌, ◌≢◌, ℕ, ◌+◌, ◌*◌, ◌<◌, ◌≤◌, List, [], ◌∷◌, ◌++◌, Bool, length, refl, sym, ◌∙◌, ap, subst, arith, Option, None, false, inl, inr, length-append}
 use Rattle.std.proofs.lemmas.Bool.{cases_lt, cases_eq}
 use Rattle.std.proofs.lemmas.Bool.Decides.{nat_tests}
-use Rattle.std.specs.Prelude.{◌⊎◌, IfErr, IsSome, IsTrue, OnOk, Ok, Err, Result, Some, min}
+use Rattle.std.specs.Prelude.{◌⊎◌, IfErr, IsSome, IsTrue, OnOk, Ok, Err, Result, Some}
 use Rattle.atomic_table.specs.Seated.{TableId}
 use Rattle.view_base.specs.Fitting.{word_at}
 use Rattle.turn_gate.specs.Meaning.{Passed}
@@ -11,14 +11,14 @@ use Rattle.version_store.specs.declared.history.Entry.{Entry}
 use Rattle.view_ends.specs.Calls.{IsFreshIn, Shuts}
 use Rattle.view_ends.specs.Pieces.{SourceSaid, SinkSaid}
 use Rattle.view_ends.specs.Desk.{Said, Untouched, IsKnown}
-use Rattle.view_ends.specs.Ends.{Rose, RoseBy, AllStay, OthersStay, NoneForgotten}
+use Rattle.view_ends.specs.Ends.{Rose, RoseBy, AllStay, NoneForgotten}
 use Rattle.view_words.specs.CommandLine.{IsLine}
 use Rattle.view_words.specs.declared.row.Row.TheVariants.{Serve}
 use Rattle.view_words.proofs.RowNames.{outs_differ}
 use Rattle.view_commands.specs.declared.places.TheConstants.{JOURNAL}
 use Rattle.view_commands.specs.declared.status.Status as status
 use Rattle.view_commands.specs.declared.status.Status.TheVariants.{Done, Words, Limit, NoColour, OpenFault, ReadFault, TooLong, Survey, WriteFault, SessionLimit, Memory}
-use Rattle.view_commands.specs.Serve.{input, output, HasPair, Empties, NotOpened}
+use Rattle.view_commands.specs.Serve.{input, output, HasPair, NotOpened}
 use Rattle.view_commands.specs.Steps.{EachFrom, Seated, AreOpened, IsOpened, IsUnread, IsUnwritten, OnlyInputs, OpensAll, OpensRead, OpensSession, OpensWritten, RefusesNext, RefusesOpening, RefusesRead, RefusesWritten, ShutsUnread}
 use Rattle.view_commands.proofs.Counts.{all_stay, same_said}
 use Rattle.view_commands.proofs.Lists.{each-append, each-map}

@@ -4,7 +4,7 @@ use Rattle.view_words.specs.CommandLine.{IsLine, all_rows, badword, row_in}
 use Rattle.view_words.specs.declared.row.Row.{Row}
 use Rattle.view_words.specs.declared.row.Row.TheVariants.{Draw, Info, Trial}
 use Rattle.view_words.proofs.Refusals.{row_in-line, badword-row, badword-unbegun}
-use Rattle.view_ends.specs.Desk.{Said, Untouched}
+use Rattle.view_ends.specs.Desk.{Said}
 use Rattle.view_commands.specs.Calls.{AnswersDraw, AnswersInfo, AnswersTrial}
 use Rattle.view_commands.specs.Run.{EndsAtOnce, Runs, RunsLine}
 use Rattle.view_commands.specs.Steps.{RunsRow}

@@ -1,7 +1,6 @@
 -- The lines of a trial, read and answered one after another.
 use Rattle.std.proofs.Common.{◌≡◌, ℕ, List, [], ◌∷◌, ◌++◌, length, Ok, refl, sym, ap, ◌∙◌, arith, append_assoc}
 use Rattle.std.specs.Prelude.{codes}
-use Rattle.std.specs.Arc.{arc_value}
 use Rattle.std.proofs.lemmas.List.{append-nil}
 use Rattle.class_bits.specs.ClassSet.{class_list, item_range}
 use Rattle.edit_ops.specs.EditLine as edit_line

@@ -1,13 +1,13 @@
 -- The survey of a trial, and what a trial writes.
-use Rattle.std.proofs.Common.{◌≡◌, ℕ, ◌+◌, ◌*◌, ◌<◌, ◌≤◌, ◌^◌, List, [], ◌++◌, length, Option, Some, None, refl, sym, ap, subst, ◌∙◌, arith, inl, inr}
-use Rattle.std.specs.Prelude.{Bool, IfSome, ◌⊎◌}
+use Rattle.std.proofs.Common.{◌≡◌, ℕ, ◌<◌, ◌≤◌, ◌^◌, List, ◌++◌, length, Option, Some, refl, sym, ap, subst, ◌∙◌, arith}
+use Rattle.std.specs.Prelude.{Bool, IfSome}
 use Rattle.std.proofs.lemmas.List.{append-nil}
 use Rattle.las_survey.specs.Loading.{TookAll}
 use Rattle.las_survey.specs.declared.loading.TheConstants.{LIMIT}
 use Rattle.survey_make.specs.Made.{made}
 use Rattle.survey_make.proofs.Laid.{length-made, laid-made}
 use Rattle.view_ends.specs.Desk.{Said}
-use Rattle.view_ends.specs.Ends.{Leaves, IsSpent, Rose}
+use Rattle.view_ends.specs.Ends.{Leaves, IsSpent}
 use Rattle.view_meaning.specs.Layout as layout
 use Rattle.view_meaning.specs.Layout.{IsLaid}
 use Rattle.view_commands.specs.Trial.{WritesSummary, summary}

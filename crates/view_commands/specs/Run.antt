@@ -1,5 +1,5 @@
 -- What the program does for the words of its command line.
-use Rattle.std.specs.Prelude.{◌≡◌, ℕ, Bool, List, [], ◌∷◌, Some}
+use Rattle.std.specs.Prelude.{◌≡◌, ℕ, Bool, List, Some}
 use Rattle.survey_info.specs.Text.{info_text}
 use Rattle.view_ends.specs.Desk.{Said, Untouched}
 use Rattle.view_base.specs.Fitting.{word_at}

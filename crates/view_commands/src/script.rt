@@ -9,7 +9,8 @@ pub(crate) const FROM_ABOVE: &[u8] =
 pub(crate) const RECLASSIFY: &[u8] = b"edit 0 0 0 65535 65535 1023 all 2";
 
 /// The third: the records that are not withheld, in perspective, by their intensity.
-pub(crate) const IN_PERSPECTIVE: &[u8] = b"view persp 256 256 32768 32768 -65536 1 0 0 0 1 0 0 0 1 128 16 1 65535 intensity all hide";
+pub(crate) const IN_PERSPECTIVE: &[u8] =
+    b"view persp 256 256 32768 32768 -65536 1 0 0 0 1 0 0 0 1 128 16 1 65535 intensity all hide";
 
 /// The fourth: how many records have class 2.
 pub(crate) const COUNT: &[u8] = b"count 2 show";

@@ -1,7 +1,5 @@
-use Rattle.std.proofs.Common.{◌∙◌, sym}
 use Rattle.view_words.specs.CommandLine.{texts}
-use Rattle.view_commands.proofs.Counts.{same_said}
-use Rattle.view_commands.proofs.Rows.{row-draw, row-info, row-trial, row-fits, row-refused}
+use Rattle.view_commands.proofs.Rows.{row-draw, row-info, row-trial}
 use Rattle.view_commands.proofs.running.run_row.Goals as goal
 
 pub returns-in-Draw : goal.returns-in-Draw

@@ -1,4 +1,4 @@
-use Rattle.std.proofs.Common.{◌≡◌, ℕ, ◌%◌, ◌^◌, take}
+use Rattle.std.proofs.Common.{◌≡◌, ◌%◌, ◌^◌, take}
 use Rattle.std.specs.List.{sum}
 use Rattle.view_commands.proofs.summing.sum_of.Given as goal
 

@@ -1,4 +1,4 @@
-use Rattle.std.proofs.Common.{◌≡◌, ◌++◌, ℕ}
+use Rattle.std.proofs.Common.{◌≡◌, ◌++◌}
 use Rattle.std.specs.Arc.{arc_value}
 use Rattle.view_lines.specs.Command.{command_of}
 use Rattle.view_commands.specs.Script.{script_replies}

@@ -1,4 +1,3 @@
-use Rattle.view_ends.specs.Desk.{Said}
 use Rattle.std.proofs.Common.{◌∙◌, refl, inl, inr}
 use Rattle.view_commands.proofs.Tried.{only_wrote-none, writes-summary}
 use Rattle.view_commands.proofs.trying.trial_file.Goals as goal
