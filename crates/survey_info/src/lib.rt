@@ -8,4 +8,4 @@ mod tests;
 mod text;
 
 pub use summary::Summary;
-pub use text::info_text;
+pub use text::{append_line, info_text};

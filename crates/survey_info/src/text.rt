@@ -57,9 +57,9 @@ fn append_fields(out: &mut Bytes, survey: &Survey)
     append_line(out, b"bytes ", survey.bytes().len() as u64);
 }
 
-/// Appends a line of a label and a number.
+/// Appends a line of a label and a number. It fits in the room, so it takes no memory.
 #[tactic(auto, using(view_base::proofs::Decimals::length_decimal), unfolding(crate::specs::Text::line))]
-fn append_line(out: &mut Bytes, label: &[u8], number: u64)
+pub fn append_line(out: &mut Bytes, label: &[u8], number: u64)
     requires label { length label.now ≤ 8 }
     requires room { length label.now + 21 ≤ out.old.spare }
     ensures appended { out.new.items ≡ out.old.items ++ line label.now number }

@@ -25,7 +25,7 @@ read_vlrs : (start n f : ℕ) → vlr_count (made start n f) ≡ 0
 unfolding made made_header u32_at
 read_vlrs start n f = refl
 
-read_format : (start n f : ℕ) → format_of (made start n f) ≡ f
+pub read_format : (start n f : ℕ) → format_of (made start n f) ≡ f
 unfolding made made_header u8_at
 read_format start n f = refl
 
@@ -83,7 +83,7 @@ length-made_record : (start f i : ℕ) → f ≤ 10 → length (made_record star
 unfolding made_record
 length-made_record start f i known = length-record_bytes f _ _ _ _ _ known
 
-length-made : (start n f : ℕ) → f ≤ 10 → length (made start n f) ≡ 375 + n * least_length f
+pub length-made : (start n f : ℕ) → f ≤ 10 → length (made start n f) ≡ 375 + n * least_length f
 unfolding made made_header
 length-made start n f known =
     length-append (made_header f n) (flat_map (made_record start f) (range_with_len 0 n))

@@ -2,6 +2,9 @@ pub mod Counts
 pub mod Lists
 pub mod Written
 pub mod Drawn
+pub mod Newest
+pub mod Scripted
+pub mod Tried
 pub mod Rows
 pub mod JournalText
 pub mod Faults

@@ -1,8 +1,8 @@
 -- What the openings of the names of a `serve` leave, one after another.
-use Rattle.std.proofs.Common.{◌≡◌, ◌≢◌, ℕ, suc, ◌+◌, ◌*◌, ◌-◌, ◌^◌, ◌<◌, ◌≤◌, List, [], ◌∷◌, ◌++◌, Bool, length, refl, sym, ◌∙◌, ap, subst, arith, Option, None, false, inl, inr, length-append}
+use Rattle.std.proofs.Common.{◌≡◌, ◌≢◌, ℕ, ◌+◌, ◌*◌, ◌<◌, ◌≤◌, List, [], ◌∷◌, ◌++◌, Bool, length, refl, sym, ◌∙◌, ap, subst, arith, Option, None, false, inl, inr, length-append}
 use Rattle.std.proofs.lemmas.Bool.{cases_lt, cases_eq}
 use Rattle.std.proofs.lemmas.Bool.Decides.{nat_tests}
-use Rattle.std.specs.Prelude.{◌⊎◌, IfErr, IsSome, IsTrue, OnOk, Ok, Err, Result, Some, min}
+use Rattle.std.specs.Prelude.{◌⊎◌, IfErr, IsSome, IsTrue, OnOk, Ok, Err, Result, Some}
 use Rattle.atomic_table.specs.Seated.{TableId}
 use Rattle.view_base.specs.Fitting.{word_at}
 use Rattle.turn_gate.specs.Meaning.{Passed}
@@ -11,14 +11,14 @@ use Rattle.version_store.specs.declared.history.Entry.{Entry}
 use Rattle.view_ends.specs.Calls.{IsFreshIn, Shuts}
 use Rattle.view_ends.specs.Pieces.{SourceSaid, SinkSaid}
 use Rattle.view_ends.specs.Desk.{Said, Untouched, IsKnown}
-use Rattle.view_ends.specs.Ends.{Rose, RoseBy, AllStay, OthersStay, NoneForgotten}
+use Rattle.view_ends.specs.Ends.{Rose, RoseBy, AllStay, NoneForgotten}
 use Rattle.view_words.specs.CommandLine.{IsLine}
 use Rattle.view_words.specs.declared.row.Row.TheVariants.{Serve}
 use Rattle.view_words.proofs.RowNames.{outs_differ}
 use Rattle.view_commands.specs.declared.places.TheConstants.{JOURNAL}
 use Rattle.view_commands.specs.declared.status.Status as status
-use Rattle.view_commands.specs.declared.status.Status.TheVariants.{Done, Words, Limit, NoColour, OpenFault, ReadFault, TooLong, Survey, WriteFault, SessionLimit, Memory, NotYet}
-use Rattle.view_commands.specs.Serve.{input, output, HasPair, Empties, NotOpened}
+use Rattle.view_commands.specs.declared.status.Status.TheVariants.{Done, Words, Limit, NoColour, OpenFault, ReadFault, TooLong, Survey, WriteFault, SessionLimit, Memory}
+use Rattle.view_commands.specs.Serve.{input, output, HasPair, NotOpened}
 use Rattle.view_commands.specs.Steps.{EachFrom, Seated, AreOpened, IsOpened, IsUnread, IsUnwritten, OnlyInputs, OpensAll, OpensRead, OpensSession, OpensWritten, RefusesNext, RefusesOpening, RefusesRead, RefusesWritten, ShutsUnread}
 use Rattle.view_commands.proofs.Counts.{all_stay, same_said}
 use Rattle.view_commands.proofs.Lists.{each-append, each-map}
@@ -135,7 +135,6 @@ untouched_more old mid new TooLong ws n rest none = absurd none
 untouched_more old mid new (Survey told) ws n rest none = absurd none
 untouched_more old mid new (WriteFault at) ws n rest none = absurd none
 untouched_more old mid new (SessionLimit at) ws n rest none = absurd none
-untouched_more old mid new NotYet ws n rest none = absurd none
 
 -- the names of some sessions were opened, and the next name was not
 pub opened-refused : (tells : Bool) (old mid new : Said) (ws : List (List ℕ)) (gate : TableId) (seats : List Seated) (n : ℕ) (ended : status.Status) → length seats ≡ n
@@ -306,7 +305,6 @@ next-unread old new ws k TooLong pair refused = absurd refused
 next-unread old new ws k (Survey told) pair refused = absurd refused
 next-unread old new ws k (WriteFault at) pair refused = absurd refused
 next-unread old new ws k (SessionLimit at) pair refused = absurd refused
-next-unread old new ws k NotYet pair refused = absurd refused
 
 -- the output of the next session, or the journal after all sessions, was not opened
 pub next-unwritten : (old new : Said) (ws : List (List ℕ)) (k at : ℕ) (ended : status.Status) → (at ≡ 5 + 2 * k) × HasPair ws k ⊎ (at ≡ JOURNAL) × (length ws ≡ 4 + 2 * k) → RefusesWritten old new (word_at ws at) at ended → RefusesNext old new ws k ended
@@ -347,7 +345,6 @@ next-unwritten old new ws k at TooLong here refused = absurd refused
 next-unwritten old new ws k at (Survey told) here refused = absurd refused
 next-unwritten old new ws k at (WriteFault place) here refused = absurd refused
 next-unwritten old new ws k at (SessionLimit place) here refused = absurd refused
-next-unwritten old new ws k at NotYet here refused = absurd refused
 
 shut_later : (mid last new : Said) (ws : List (List ℕ)) (k : ℕ) (ended : status.Status) → Untouched (record last { taken = new.taken }) new → NotOpened mid last ws k ended → NotOpened mid new ws k ended
 shut_later mid last new ws k (OpenFault at) rest (inl none) = inl (
@@ -398,7 +395,6 @@ shut_later mid last new ws k TooLong rest none = absurd none
 shut_later mid last new ws k (Survey told) rest none = absurd none
 shut_later mid last new ws k (WriteFault at) rest none = absurd none
 shut_later mid last new ws k (SessionLimit at) rest none = absurd none
-shut_later mid last new ws k NotYet rest none = absurd none
 
 -- the input of a session was opened, its output was not, and the input is shut
 pub next-shut : (old mid last new : Said) (ws : List (List ℕ)) (k : ℕ) (ended : status.Status) → Untouched old mid → RefusesNext mid last ws k ended → ShutsUnread last new ws → RefusesNext old new ws k ended

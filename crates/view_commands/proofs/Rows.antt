@@ -2,13 +2,14 @@
 use Rattle.std.proofs.Common.{◌≡◌, ℕ, List, [], ◌∷◌, Bool, Option, Some, None, sym, ◌∙◌, subst}
 use Rattle.view_words.specs.CommandLine.{IsLine, all_rows, badword, row_in}
 use Rattle.view_words.specs.declared.row.Row.{Row}
-use Rattle.view_words.specs.declared.row.Row.TheVariants.{Draw, Info}
+use Rattle.view_words.specs.declared.row.Row.TheVariants.{Draw, Info, Trial}
 use Rattle.view_words.proofs.Refusals.{row_in-line, badword-row, badword-unbegun}
-use Rattle.view_ends.specs.Desk.{Said, Untouched}
-use Rattle.view_commands.specs.Calls.{AnswersDraw, AnswersInfo}
+use Rattle.view_ends.specs.Desk.{Said}
+use Rattle.view_commands.specs.Calls.{AnswersDraw, AnswersInfo, AnswersTrial}
 use Rattle.view_commands.specs.Run.{EndsAtOnce, Runs, RunsLine}
 use Rattle.view_commands.specs.Steps.{RunsRow}
 use Rattle.view_commands.specs.Serve.{IsNothing}
+use Rattle.view_commands.specs.Trial.{TriesLine}
 use Rattle.view_commands.specs.Texts.{DrawsView, MakesText, view_in, refuses_none}
 use Rattle.view_base.specs.Fitting.{word_at}
 use Rattle.survey_info.specs.Text.{info_text}
@@ -69,4 +70,11 @@ pub row-info : (tells : Bool) (old new : Said) (ws : List (List ℕ)) (is : stat
 row-info tells old new ws is ended same nothing answered = record {
   refused = λ at bad. let refused = answered.refused at bad in record { status = same ∙ refused.0; untouched = refused.1; told = nothing };
   line = λ line. (subst (λ (s : status.Status). MakesText tells old new (word_at ws 1) (word_at ws 2) refuses_none info_text s) (sym same) (answered.line line), nothing);
+}
+
+-- a `trial`
+pub row-trial : (tells : Bool) (old new : Said) (ws : List (List ℕ)) (is : status.Status) (ended : Ended) → ended.status ≡ is → IsNothing ended.told → AnswersTrial tells old new ws is → RunsRow Trial tells old new ws ended
+row-trial tells old new ws is ended same nothing answered = record {
+  refused = λ at bad. let refused = answered.refused at bad in record { status = same ∙ refused.0; untouched = refused.1; told = nothing };
+  line = λ line. (subst (λ (s : status.Status). TriesLine tells old new ws s) (sym same) (answered.line line), nothing);
 }

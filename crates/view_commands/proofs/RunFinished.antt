@@ -1,5 +1,5 @@
 -- A run that is finished, by what each call left.
-use Rattle.std.proofs.Common.{◌≡◌, ℕ, ◌+◌, ◌-◌, ◌*◌, Bool, true, false, List, [], ◌∷◌, ◌++◌, All, length, map, refl, sym, ◌∙◌, ap, subst, arith}
+use Rattle.std.proofs.Common.{◌≡◌, ℕ, ◌+◌, ◌*◌, Bool, true, List, [], ◌++◌, All, length, map, sym, ◌∙◌, ap, subst, arith}
 use Rattle.std.specs.Prelude.{◌⊎◌, Contains, None}
 use Rattle.std.specs.List.{AllZip}
 use Rattle.atomic_table.specs.Seated.{TableId}
@@ -14,10 +14,10 @@ use Rattle.view_ends.specs.Desk.{Said}
 use Rattle.view_commands.specs.declared.places.TheConstants.{JOURNAL, INPUT}
 use Rattle.view_commands.specs.declared.told.Ended.{Ended}
 use Rattle.view_commands.specs.Serve.{first_fault, journal_text, status_at}
-use Rattle.view_commands.specs.Steps.{FinishesAll, FinishesRun, IsServed, JoinsAll, OnlyWrote, OpensAll, RunsAll, Seated}
-use Rattle.view_commands.specs.Texts.{KeepsText}
+use Rattle.view_commands.specs.Steps.{FinishesAll, FinishesRun, IsServed, JoinsAll, OpensAll, RunsAll, Seated}
+use Rattle.view_commands.specs.Texts.{KeepsText, OnlyWrote}
 use Rattle.view_commands.proofs.Lists.{zip-length}
-use Rattle.view_commands.proofs.Passes.{AreJoined, joined-all}
+use Rattle.view_commands.proofs.Passes.{joined-all}
 
 pub run-finished : (tells : Bool) (old mid new : Said) (ws : List (List ℕ)) (seats items : List Seated) (root last : Passed Entry) (before after : List SessionEnd) (kept_before kept_after : List Reason) (name : List ℕ) (ended : Ended)
     → items ≡ seats → before ≡ [] → kept_before ≡ [] → after ≡ before ++ map (λ (seat : Seated). seat.end) items

@@ -1,8 +1,7 @@
 -- A `serve`, put together of its steps.
-use Rattle.std.proofs.Common.{◌≡◌, ◌≢◌, ℕ, ◌+◌, ◌*◌, ◌<◌, ◌≤◌, Bool, List, [], length, refl, sym, ◌∙◌, subst, arith, inl, inr}
-use Rattle.std.specs.Prelude.{◌⊎◌}
+use Rattle.std.proofs.Common.{◌≡◌, ◌≢◌, ℕ, ◌+◌, ◌*◌, ◌≤◌, Bool, List, length, refl, sym, ◌∙◌, subst, arith, inl, inr}
 use Rattle.view_base.specs.Fitting.{word_at}
-use Rattle.view_ends.specs.Desk.{Said, Untouched}
+use Rattle.view_ends.specs.Desk.{Said}
 use Rattle.view_ends.specs.Ends.{Rose, RoseBy}
 use Rattle.view_meaning.specs.Layout.{IsLaid}
 use Rattle.view_words.specs.CommandLine.{IsLine}
@@ -10,9 +9,9 @@ use Rattle.view_words.specs.declared.row.Row.TheVariants.{Serve}
 use Rattle.view_words.proofs.RowNames.{in_not_survey}
 use Rattle.view_commands.specs.declared.places.TheConstants.{SURVEY, JOURNAL}
 use Rattle.view_commands.specs.declared.status.Status as status
-use Rattle.view_commands.specs.declared.status.Status.TheVariants.{Done, Words, Limit, NoColour, OpenFault, ReadFault, TooLong, Survey, WriteFault, SessionLimit, Memory, NotYet}
+use Rattle.view_commands.specs.declared.status.Status.TheVariants.{Done, Words, Limit, NoColour, OpenFault, ReadFault, TooLong, Survey, WriteFault, SessionLimit, Memory}
 use Rattle.view_commands.specs.declared.told.Ended.{Ended}
-use Rattle.view_commands.specs.Serve.{input, output, HasPair, IsCalm, IsNothing, Empties, NotOpened, ServesLine}
+use Rattle.view_commands.specs.Serve.{input, HasPair, IsCalm, IsNothing, Empties, NotOpened, ServesLine}
 use Rattle.view_commands.specs.Steps.{OnlyInputs, RefusesOpening, RunsAll, ServesIn}
 use Rattle.view_commands.specs.Texts.{IsReadWhole, NoSurvey, OnlyTook, refuses_none}
 use Rattle.view_commands.proofs.Counts.{at_most}
@@ -103,7 +102,6 @@ refused-before old mid new survey ws n TooLong took none = absurd none
 refused-before old mid new survey ws n (Survey told) took none = absurd none
 refused-before old mid new survey ws n (WriteFault at) took none = absurd none
 refused-before old mid new survey ws n (SessionLimit at) took none = absurd none
-refused-before old mid new survey ws n NotYet took none = absurd none
 
 -- a survey was read, and then not all was opened
 serves-refused : (tells : Bool) (old mid new : Said) (ws : List (List ℕ)) (b : List ℕ) (n : ℕ) (ended : Ended) → IsLine Serve ws → length ws ≡ 4 + 2 * n → IsLaid b → IsReadWhole tells old mid (word_at ws SURVEY) b → OnlyTook old mid (word_at ws SURVEY)

@@ -1,6 +1,6 @@
 -- The sessions of a `serve`, put together of what its steps leave.
-use Rattle.std.proofs.Common.{◌≡◌, ◌≢◌, ℕ, zero, suc, ◌+◌, ◌*◌, ◌<◌, ◌≤◌, Bool, true, false, List, [], ◌∷◌, ◌++◌, All, length, map, refl, sym, ◌∙◌, ap, subst, arith}
-use Rattle.std.specs.Prelude.{None, Option, Some, slice_get}
+use Rattle.std.proofs.Common.{◌≡◌, ◌≢◌, ℕ, zero, suc, ◌+◌, ◌*◌, ◌<◌, ◌≤◌, Bool, true, List, [], ◌∷◌, All, length, map, sym, ◌∙◌, ap, subst, arith}
+use Rattle.std.specs.Prelude.{None, Some, slice_get}
 use Rattle.std.proofs.lemmas.List.{length-map}
 use Rattle.std.proofs.lemmas.List.Elements.{All-nil, All-cons, All-map}
 use mathlib.Core.List.{IsPrefix}
@@ -22,9 +22,9 @@ use Rattle.view_words.specs.declared.row.Row.TheVariants.{Serve}
 use Rattle.view_words.proofs.RowNames.{in_not_survey, out_not_journal}
 use Rattle.view_commands.specs.declared.places.TheConstants.{SURVEY, JOURNAL}
 use Rattle.view_commands.specs.declared.told.Ended.{Ended}
-use Rattle.view_commands.specs.Serve.{input, output, HasPair, RunsSession, RunsSessions}
-use Rattle.view_commands.specs.Steps.{EachFrom, FinishesRun, OnlyInputs, OnlyWrote, OpensAll, RunsAll, Seated}
-use Rattle.view_commands.specs.Texts.{OnlyTook}
+use Rattle.view_commands.specs.Serve.{input, output, RunsSession, RunsSessions}
+use Rattle.view_commands.specs.Steps.{EachFrom, FinishesRun, OnlyInputs, RunsAll, Seated}
+use Rattle.view_commands.specs.Texts.{OnlyTook, OnlyWrote}
 use Rattle.view_commands.proofs.Begun.{WasServed, served-each}
 use Rattle.view_commands.proofs.Faults.{kept_file}
 use Rattle.view_commands.proofs.Finished.{AreFinished, IsFinished, finished-after, finished-all, finished-before}

@@ -1,5 +1,5 @@
 -- How a `serve` ends where nothing outside failed.
-use Rattle.std.proofs.Common.{◌≡◌, ◌≢◌, ℕ, zero, suc, ◌+◌, ◌*◌, ◌<◌, ◌≤◌, Bool, List, [], ◌∷◌, length, map, take, refl, sym, ◌∙◌, ap, subst, arith, inl, inr}
+use Rattle.std.proofs.Common.{◌≡◌, ◌≢◌, ℕ, zero, suc, ◌+◌, ◌<◌, ◌≤◌, Bool, List, [], ◌∷◌, length, map, take, refl, sym, ◌∙◌, ap, subst, arith, inl, inr}
 use Rattle.std.specs.Prelude.{◌⊎◌, min, Option, Some, IfSome, slice_get}
 use Rattle.std.proofs.lemmas.List.{length-take}
 use Rattle.std.proofs.lemmas.Bool.Decides.{nat_tests}
@@ -120,7 +120,6 @@ not_opened-settles old new ws n state.TooLong none calm journal = absurd none
 not_opened-settles old new ws n (state.Survey told) none calm journal = absurd none
 not_opened-settles old new ws n (state.WriteFault at) none calm journal = absurd none
 not_opened-settles old new ws n (state.SessionLimit at) none calm journal = absurd none
-not_opened-settles old new ws n state.NotYet none calm journal = absurd none
 
 finished-first : (at : ℕ) (reasons : List reason.Reason) (last : status.Status) → first_fault at reasons last ≡ state.Done → (k : ℕ) (one : reason.Reason) → slice_get reasons k ≡ Some one → one ≡ Finished
 finished-first at [] last done k one is = absurd (cc is)

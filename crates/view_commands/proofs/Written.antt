@@ -9,13 +9,13 @@ use Rattle.view_ends.specs.Desk.{Said}
 use Rattle.view_ends.specs.Ends.{Rose, RoseBy, AllStay, OthersStay}
 use Rattle.view_meaning.specs.Layout as layout
 use Rattle.view_meaning.specs.Layout.{IsLaid}
-use Rattle.view_commands.specs.Steps.{OnlyWrote}
-use Rattle.view_commands.specs.Texts.{IsReadWhole, OnlyTook, NoSurvey, HoldsPart, KeepsText, Writes, SettlesFile, Makes, MakesText}
+use Rattle.view_commands.specs.Texts.{IsReadWhole, OnlyTook, NoSurvey, HoldsPart, KeepsText, OnlyWrote, Writes, SettlesFile, Makes, MakesText}
+use Rattle.view_commands.specs.declared.places.TheConstants.{OUT}
 use Rattle.view_commands.specs.declared.status.Status as status
-use Rattle.view_commands.specs.declared.status.Status.TheVariants.{Done, Words, Limit, NoColour, OpenFault, ReadFault, TooLong, Survey, WriteFault, SessionLimit, Memory, NotYet}
+use Rattle.view_commands.specs.declared.status.Status.TheVariants.{Done, Words, Limit, NoColour, OpenFault, ReadFault, TooLong, Survey, WriteFault, SessionLimit, Memory}
 
 -- a file that is laid out has no fault
-fault-laid : (b : List ℕ) (fault : layout.Fault) → IsLaid b → layout.fault b ≡ Some fault → ⊥
+pub fault-laid : (b : List ℕ) (fault : layout.Fault) → IsLaid b → layout.fault b ≡ Some fault → ⊥
 unfolding IsLaid
 fault-laid b fault laid is = absurd (cc (laid, is))
 
@@ -65,7 +65,6 @@ no_survey-settles tells old new name refusal calm (Limit limit) none = absurd no
 no_survey-settles tells old new name refusal calm (NoColour format) none = absurd none
 no_survey-settles tells old new name refusal calm (WriteFault at) none = absurd none
 no_survey-settles tells old new name refusal calm (SessionLimit at) none = absurd none
-no_survey-settles tells old new name refusal calm NotYet none = absurd none
 
 -- a survey that was read and is laid out settles by what comes after
 pub read-settles : (tells : Bool) (old new : Said) (name b : List ℕ) (refusal : List ℕ → Option status.Status) (calm : Type 0) (ended : status.Status) → IsLaid b → IsReadWhole tells old new name b
@@ -98,7 +97,6 @@ no_survey-files tells old new name (Limit limit) none = absurd none
 no_survey-files tells old new name (NoColour format) none = absurd none
 no_survey-files tells old new name (WriteFault at) none = absurd none
 no_survey-files tells old new name (SessionLimit at) none = absurd none
-no_survey-files tells old new name NotYet none = absurd none
 
 -- no survey: nothing was taken of another name
 pub no_survey-taken : (tells : Bool) (old new : Said) (name : List ℕ) (status : status.Status) → NoSurvey tells old new name status → OthersStay old.taken new.taken name
@@ -113,7 +111,6 @@ no_survey-taken tells old new name (Limit limit) none = absurd none
 no_survey-taken tells old new name (NoColour format) none = absurd none
 no_survey-taken tells old new name (WriteFault at) none = absurd none
 no_survey-taken tells old new name (SessionLimit at) none = absurd none
-no_survey-taken tells old new name NotYet none = absurd none
 
 part_earlier : (tells : Bool) (old mid new : Said) (name bytes : List ℕ) → mid.unkept name ≡ old.unkept name → HoldsPart tells mid new name bytes → HoldsPart tells old new name bytes
 part_earlier tells old mid new name bytes unkept part = λ tell calm.
@@ -131,40 +128,38 @@ keeps-earlier tells old mid new name bytes why.ReadFault writes unkept so = absu
 keeps-earlier tells old mid new name bytes why.SessionLimit writes unkept so = absurd so
 
 -- a text that was written after a survey was read, seen from before that
-writes-earlier : (tells : Bool) (old mid new : Said) (out bytes : List ℕ) (status : status.Status) → AllStay old.file mid.file → mid.writes out ≡ old.writes out → mid.unkept out ≡ old.unkept out
-    → Writes tells mid new out bytes status → Writes tells old new out bytes status
-writes-earlier tells old mid new out bytes Done files writes unkept so = (so.0, so.1 ∙ writes)
-writes-earlier tells old mid new out bytes (OpenFault at) files writes unkept so = (
+writes-earlier : (tells : Bool) (old mid new : Said) (place : ℕ) (out bytes : List ℕ) (status : status.Status) → AllStay old.file mid.file → mid.writes out ≡ old.writes out → mid.unkept out ≡ old.unkept out
+    → Writes tells mid new place out bytes status → Writes tells old new place out bytes status
+writes-earlier tells old mid new place out bytes Done files writes unkept so = (so.0, so.1 ∙ writes)
+writes-earlier tells old mid new place out bytes (OpenFault at) files writes unkept so = (
   so.0,
   λ other. so.1 other ∙ files other,
   subst (λ (n : ℕ). Rose n (new.writes out)) writes so.2,
 )
-writes-earlier tells old mid new out bytes (WriteFault at) files writes unkept so = (so.0, keeps-earlier tells old mid new out bytes why.WriteFault writes unkept so.1)
-writes-earlier tells old mid new out bytes Memory files writes unkept (inl stay, same) = (inl (λ other. stay other ∙ files other), same ∙ writes)
-writes-earlier tells old mid new out bytes Memory files writes unkept (inr part, same) = (inr (part_earlier tells old mid new out bytes unkept part), same ∙ writes)
-writes-earlier tells old mid new out bytes (Words at) files writes unkept so = absurd so
-writes-earlier tells old mid new out bytes (Limit limit) files writes unkept so = absurd so
-writes-earlier tells old mid new out bytes (NoColour format) files writes unkept so = absurd so
-writes-earlier tells old mid new out bytes (ReadFault at) files writes unkept so = absurd so
-writes-earlier tells old mid new out bytes TooLong files writes unkept so = absurd so
-writes-earlier tells old mid new out bytes (Survey told) files writes unkept so = absurd so
-writes-earlier tells old mid new out bytes (SessionLimit at) files writes unkept so = absurd so
-writes-earlier tells old mid new out bytes NotYet files writes unkept so = absurd so
+writes-earlier tells old mid new place out bytes (WriteFault at) files writes unkept so = (so.0, keeps-earlier tells old mid new out bytes why.WriteFault writes unkept so.1)
+writes-earlier tells old mid new place out bytes Memory files writes unkept (inl stay, same) = (inl (λ other. stay other ∙ files other), same ∙ writes)
+writes-earlier tells old mid new place out bytes Memory files writes unkept (inr part, same) = (inr (part_earlier tells old mid new out bytes unkept part), same ∙ writes)
+writes-earlier tells old mid new place out bytes (Words at) files writes unkept so = absurd so
+writes-earlier tells old mid new place out bytes (Limit limit) files writes unkept so = absurd so
+writes-earlier tells old mid new place out bytes (NoColour format) files writes unkept so = absurd so
+writes-earlier tells old mid new place out bytes (ReadFault at) files writes unkept so = absurd so
+writes-earlier tells old mid new place out bytes TooLong files writes unkept so = absurd so
+writes-earlier tells old mid new place out bytes (Survey told) files writes unkept so = absurd so
+writes-earlier tells old mid new place out bytes (SessionLimit at) files writes unkept so = absurd so
 
 -- a text whose writing met no fault is done, but for want of memory
-writes-calm : (tells : Bool) (old new : Said) (out bytes : List ℕ) (status : status.Status) → Writes tells old new out bytes status → (Rose (old.writes out) (new.writes out) → ⊥) → (status ≡ Done) ⊎ (status ≡ Memory)
-writes-calm tells old new out bytes Done so calm = inl refl
-writes-calm tells old new out bytes (OpenFault at) so calm = absurd (calm so.2)
-writes-calm tells old new out bytes (WriteFault at) so calm = absurd (calm so.1.1)
-writes-calm tells old new out bytes Memory so calm = inr refl
-writes-calm tells old new out bytes (Words at) so calm = absurd so
-writes-calm tells old new out bytes (Limit limit) so calm = absurd so
-writes-calm tells old new out bytes (NoColour format) so calm = absurd so
-writes-calm tells old new out bytes (ReadFault at) so calm = absurd so
-writes-calm tells old new out bytes TooLong so calm = absurd so
-writes-calm tells old new out bytes (Survey told) so calm = absurd so
-writes-calm tells old new out bytes (SessionLimit at) so calm = absurd so
-writes-calm tells old new out bytes NotYet so calm = absurd so
+pub writes-calm : (tells : Bool) (old new : Said) (place : ℕ) (out bytes : List ℕ) (status : status.Status) → Writes tells old new place out bytes status → (Rose (old.writes out) (new.writes out) → ⊥) → (status ≡ Done) ⊎ (status ≡ Memory)
+writes-calm tells old new place out bytes Done so calm = inl refl
+writes-calm tells old new place out bytes (OpenFault at) so calm = absurd (calm so.2)
+writes-calm tells old new place out bytes (WriteFault at) so calm = absurd (calm so.1.1)
+writes-calm tells old new place out bytes Memory so calm = inr refl
+writes-calm tells old new place out bytes (Words at) so calm = absurd so
+writes-calm tells old new place out bytes (Limit limit) so calm = absurd so
+writes-calm tells old new place out bytes (NoColour format) so calm = absurd so
+writes-calm tells old new place out bytes (ReadFault at) so calm = absurd so
+writes-calm tells old new place out bytes TooLong so calm = absurd so
+writes-calm tells old new place out bytes (Survey told) so calm = absurd so
+writes-calm tells old new place out bytes (SessionLimit at) so calm = absurd so
 
 -- no survey came, and nothing was written
 pub text-none : (tells : Bool) (old new : Said) (survey out : List ℕ) (refusal : List ℕ → Option status.Status) (text : List ℕ → List ℕ) (status : status.Status) → NoSurvey tells old new survey status → MakesText tells old new survey out refusal text status
@@ -194,7 +189,7 @@ text-refused tells old new survey out refusal text b ended is laid read took =
 
 -- a survey was read and not refused, and then its text written
 pub text-written : (tells : Bool) (old mid new : Said) (survey out : List ℕ) (refusal : List ℕ → Option status.Status) (text : List ℕ → List ℕ) (b bytes : List ℕ) (ended : status.Status) → bytes ≡ text b → refusal b ≡ None → IsLaid b → IsReadWhole tells old mid survey b → OnlyTook old mid survey
-    → Writes tells mid new out bytes ended → OnlyWrote mid new out → MakesText tells old new survey out refusal text ended
+    → Writes tells mid new OUT out bytes ended → OnlyWrote mid new out → MakesText tells old new survey out refusal text ended
 text-written tells old mid new survey out refusal text b bytes ended is free laid read took written only =
     let reads : IsReadWhole tells old new survey b = record {
       few = read.few;
@@ -204,12 +199,12 @@ text-written tells old mid new survey out refusal text b bytes ended is free lai
       opened = only.rest.unopened survey ∙ read.opened;
       unfailed = only.rest.reads survey ∙ read.unfailed;
     } in
-    let writes : Writes tells old new out (text b) ended =
-    subst (λ (l : List ℕ). Writes tells old new out l ended) is (writes-earlier tells old mid new out bytes ended took.rest.files (took.rest.writes out) (took.rest.unkept out) written) in
+    let writes : Writes tells old new OUT out (text b) ended =
+    subst (λ (l : List ℕ). Writes tells old new OUT out l ended) is (writes-earlier tells old mid new OUT out bytes ended took.rest.files (took.rest.writes out) (took.rest.unkept out) written) in
     let made : Makes tells old new survey out (refusal b) (text b) ended =
     subst (λ (o : Option status.Status). Makes tells old new survey out o (text b) ended) (sym free) writes in
     record {
       outcome = inr (b, laid, reads, made);
       others = λ other apart. only.files other apart ∙ took.rest.files other;
-      settled = read-settles tells old new survey b refusal (Rose (old.writes out) (new.writes out) → ⊥) ended laid reads (λ other also. absurd (refused_alone (refusal b) other also free)) (λ none calm. writes-calm tells old new out (text b) ended writes calm);
+      settled = read-settles tells old new survey b refusal (Rose (old.writes out) (new.writes out) → ⊥) ended laid reads (λ other also. absurd (refused_alone (refusal b) other also free)) (λ none calm. writes-calm tells old new OUT out (text b) ended writes calm);
     }

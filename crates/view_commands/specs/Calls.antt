@@ -4,8 +4,9 @@ use Rattle.survey_info.specs.Text.{info_text}
 use Rattle.view_ends.specs.Desk.{Said, Untouched}
 use Rattle.view_base.specs.Fitting.{word_at}
 use Rattle.view_words.specs.CommandLine.{badword, IsLine}
-use Rattle.view_words.specs.declared.row.Row.TheVariants.{Draw, Info}
+use Rattle.view_words.specs.declared.row.Row.TheVariants.{Draw, Info, Trial}
 use Rattle.view_commands.specs.Texts.{DrawsView, view_in, MakesText, refuses_none}
+use Rattle.view_commands.specs.Trial.{TriesLine}
 use Rattle.view_commands.specs.declared.status.Status as status
 use Rattle.view_commands.specs.declared.status.Status.TheVariants.{Words}
 
@@ -18,3 +19,8 @@ pub record AnswersDraw (tells : Bool) (old new : Said) (ws : List (List ℕ)) (e
 pub record AnswersInfo (tells : Bool) (old new : Said) (ws : List (List ℕ)) (ended : status.Status) : Type 0 where
   pub refused : (at : ℕ) → badword (Info ∷ []) ws ≡ Some at → (ended ≡ Words at) × Untouched old new
   pub line : IsLine Info ws → MakesText tells old new (word_at ws 1) (word_at ws 2) refuses_none info_text ended
+
+-- words are answered as those of a `trial`: by the first that is refused, or else as a line
+pub record AnswersTrial (tells : Bool) (old new : Said) (ws : List (List ℕ)) (ended : status.Status) : Type 0 where
+  pub refused : (at : ℕ) → badword (Trial ∷ []) ws ≡ Some at → (ended ≡ Words at) × Untouched old new
+  pub line : IsLine Trial ws → TriesLine tells old new ws ended

@@ -1,6 +1,8 @@
 pub mod Status
 pub mod Texts
 pub mod Serve
+pub mod Script
+pub mod Trial
 pub mod Run
 pub mod Calls
 pub mod Steps

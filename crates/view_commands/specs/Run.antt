@@ -1,5 +1,5 @@
 -- What the program does for the words of its command line.
-use Rattle.std.specs.Prelude.{◌≡◌, ℕ, Bool, List, [], ◌∷◌, Some}
+use Rattle.std.specs.Prelude.{◌≡◌, ℕ, Bool, List, Some}
 use Rattle.survey_info.specs.Text.{info_text}
 use Rattle.view_ends.specs.Desk.{Said, Untouched}
 use Rattle.view_base.specs.Fitting.{word_at}
@@ -7,10 +7,11 @@ use Rattle.view_words.specs.CommandLine.{all_rows, badword, IsLine}
 use Rattle.view_words.specs.declared.row.Row as row
 use Rattle.view_words.specs.declared.row.Row.TheVariants.{Draw, Info, Trial, Serve}
 use Rattle.view_commands.specs.declared.status.Status as status
-use Rattle.view_commands.specs.declared.status.Status.TheVariants.{Words, NotYet}
+use Rattle.view_commands.specs.declared.status.Status.TheVariants.{Words}
 use Rattle.view_commands.specs.declared.told.Ended.{Ended}
 use Rattle.view_commands.specs.Texts.{DrawsView, view_in, MakesText, refuses_none}
 use Rattle.view_commands.specs.Serve.{IsNothing, ServesLine}
+use Rattle.view_commands.specs.Trial.{TriesLine}
 
 -- a command that ended so before it touched a file, and tells nothing
 pub record EndsAtOnce (old new : Said) (is : status.Status) (ended : Ended) : Type 0 where
@@ -22,7 +23,7 @@ pub record EndsAtOnce (old new : Said) (is : status.Status) (ended : Ended) : Ty
 abbrev pub RunsLine : row.Row → Bool → Said → Said → List (List ℕ) → Ended → Type 0
 RunsLine Draw tells old new ws ended = DrawsView tells old new ws (view_in ws) ended.status × IsNothing ended.told
 RunsLine Info tells old new ws ended = MakesText tells old new (word_at ws 1) (word_at ws 2) refuses_none info_text ended.status × IsNothing ended.told
-RunsLine Trial tells old new ws ended = EndsAtOnce old new NotYet ended
+RunsLine Trial tells old new ws ended = TriesLine tells old new ws ended.status × IsNothing ended.told
 RunsLine Serve tells old new ws ended = ServesLine tells old new ws ended
 
 -- words that are refused are answered by the first refused one, and those that fit a row by its command

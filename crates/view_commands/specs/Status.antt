@@ -3,7 +3,7 @@ use Rattle.std.specs.Prelude.{ℕ, List, [], ◌++◌, codes, decimal}
 use Rattle.std.specs.Fmt.{signed_decimal}
 use Rattle.las_survey.specs.FaultText as survey
 use Rattle.view_commands.specs.declared.status.Status as status
-use Rattle.view_commands.specs.declared.status.Status.TheVariants.{Done, Words, Limit, NoColour, OpenFault, ReadFault, TooLong, Survey, WriteFault, SessionLimit, Memory, NotYet}
+use Rattle.view_commands.specs.declared.status.Status.TheVariants.{Done, Words, Limit, NoColour, OpenFault, ReadFault, TooLong, Survey, WriteFault, SessionLimit, Memory}
 
 -- the exit code of a status
 abbrev pub code_of : status.Status → ℕ
@@ -18,7 +18,6 @@ code_of (Survey _) = 8
 code_of (WriteFault _) = 9
 code_of (SessionLimit _) = 10
 code_of Memory = 11
-code_of NotYet = 12
 
 -- the text of a status, which is empty where all was done
 abbrev pub text_of : status.Status → List ℕ
@@ -33,4 +32,3 @@ text_of (Survey fault) = codes "survey: " ++ survey.text_of fault
 text_of (WriteFault at) = codes "cannot write word " ++ decimal at
 text_of (SessionLimit at) = codes "session input of word " ++ decimal at ++ codes " is too long"
 text_of Memory = codes "out of memory"
-text_of NotYet = codes "not built yet"

@@ -1,40 +1,42 @@
 -- What the steps of the commands hand to one another.
-use Rattle.std.specs.Prelude.{◌≡◌, ◌≢◌, ℕ, ◌+◌, ◌-◌, ◌*◌, ◌<◌, ◌≤◌, ◌⊎◌, true, false, Bool, IsTrue, List, [], ◌∷◌, ◌++◌, length, map, All, Contains, Option, Some, None, IsSome, Result}
+use Rattle.std.specs.Prelude.{◌≡◌, ◌≢◌, ℕ, ◌+◌, ◌-◌, ◌*◌, ◌<◌, ◌≤◌, ◌⊎◌, true, false, Bool, IsTrue, List, [], ◌∷◌, ◌++◌, length, map, All, Contains, Option, Some, None, IsSome, Result, Ok}
+use Rattle.std.specs.Arc.{arc_value}
 use Rattle.std.specs.List.{AllZip}
 use mathlib.Core.List.{IsPrefix}
 use Rattle.atomic_table.specs.Seated.{TableId}
+use Rattle.sessions.specs.Lines.{Item}
 use Rattle.sessions.specs.Listening.{Read, Wrote, reason_of}
+use Rattle.sessions.specs.Replies.{reply}
 use Rattle.sessions.specs.Session.{Served}
-use Rattle.sessions.specs.Worlds.{HasGivenBack}
+use Rattle.sessions.specs.Worlds.{HasGivenBack, IsScene}
+use Rattle.sessions.specs.declared.drawing.Scene.{Scene}
 use Rattle.sessions.specs.declared.end.Reason as reason
 use Rattle.sessions.specs.declared.end.SessionEnd.{SessionEnd}
 use Rattle.turn_gate.specs.Meaning.{Passed, made_by}
-use Rattle.version_store.specs.Histories.{journal}
+use Rattle.version_store.specs.Histories.{journal, IsLegal}
 use Rattle.version_store.specs.Sharing.{IsOwn, maker}
+use Rattle.version_store.specs.Store.{Stored}
 use Rattle.version_store.specs.declared.history.Entry.{Entry}
 use Rattle.view_ends.specs.Calls.{Shuts, Keeps}
 use Rattle.view_ends.specs.Desk.{Said, IsKnown, Untouched}
 use Rattle.view_ends.specs.Ends.{AllStay, OthersStay, NoneForgotten, Rose}
 use Rattle.view_ends.specs.Pieces.{SourceSaid, SinkSaid}
 use Rattle.view_ends.specs.declared.fault.EndFault.{EndFault}
+use Rattle.view_lines.specs.declared.command.Command.TheVariants as command
+use Rattle.view_meaning.specs.Classes as meaning
+use Rattle.view_meaning.specs.Survey.{format_of}
 use Rattle.view_words.specs.CommandLine.{badword, IsLine}
 use Rattle.view_words.specs.declared.row.Row as row
 use Rattle.view_base.specs.Fitting.{word_at}
 use Rattle.view_commands.specs.declared.places.TheConstants.{JOURNAL, INPUT}
+use Rattle.view_commands.specs.declared.script.TheConstants.{FORMAT}
 use Rattle.view_commands.specs.Run.{EndsAtOnce, RunsLine}
 use Rattle.view_commands.specs.Serve.{input, output, HasPair, Empties, IsNothing, NotOpened, first_fault, journal_text, status_at}
-use Rattle.view_commands.specs.Texts.{KeepsText}
+use Rattle.view_commands.specs.Texts.{KeepsText, OnlyWrote}
 use Rattle.view_commands.specs.declared.finishing.Outcomes.{Outcomes}
 use Rattle.view_commands.specs.declared.status.Status as status
 use Rattle.view_commands.specs.declared.status.Status.TheVariants.{Words, OpenFault, Memory}
 use Rattle.view_commands.specs.declared.told.Ended.{Ended}
-
--- nothing changed but a file, and what its writing and its keeping count
-pub record OnlyWrote (old new : Said) (name : List ℕ) : Type 0 where
-  pub files : OthersStay old.file new.file name
-  pub writes : OthersStay old.writes new.writes name
-  pub unkept : OthersStay old.unkept new.unkept name
-  pub rest : Untouched (record old { file = new.file; writes = new.writes; unkept = new.unkept }) new
 
 -- an output that got nothing
 pub record IsUnwritten (tells : Bool) (got : Option (List ℕ)) (faults : ℕ) : Type 0 where
@@ -240,3 +242,29 @@ pub record RunsAll (tells : Bool) (old new : Said) (ws : List (List ℕ)) (b : L
 -- not all names were opened, or the sessions ran
 abbrev pub ServesIn : Bool → Said → Said → List (List ℕ) → List ℕ → Ended → Type 0
 ServesIn tells old new ws b ended = (IsNothing ended.told × RefusesOpening tells old new ws ended.status) ⊎ RunsAll tells old new ws b ended
+
+-- a line that a trial may answer: a view, an edit or a count
+abbrev pub CanAnswer : Item → Type 0
+CanAnswer (Ok (command.View view)) = Unit {0}
+CanAnswer (Ok (command.Edit edit)) = Unit {0}
+CanAnswer (Ok (command.Count filter)) = Unit {0}
+CanAnswer _ = ⊥
+
+-- the edits that a line publishes
+abbrev pub edits_in : Item → List meaning.Edit
+edits_in (Ok (command.Edit edit)) = edit ∷ []
+edits_in _ = []
+
+-- a line may be answered over this store, of the survey of this scene
+pub record IsStage (scene : Scene) (store : Stored) : Type 0 where
+  pub scene_is : IsScene scene
+  pub bytes : store.bytes ≡ arc_value scene.survey
+  pub format : format_of store.bytes ≡ FORMAT
+  pub legal : IsLegal store.history
+
+-- a line was answered over a store: its edit was published, if it is one, and its reply appended
+pub record Answers (old new : Stored) (item : Item) (before after : List ℕ) : Type 0 where
+  pub bytes : new.bytes ≡ old.bytes
+  pub edits : journal new.history ≡ journal old.history ++ edits_in item
+  pub legal : IsLegal new.history
+  pub replied : after ≡ before ++ reply new.bytes (journal new.history) item (length (journal new.history))

@@ -37,6 +37,13 @@ pub record OnlyTook (old new : Said) (name : List ℕ) : Type 0 where
   pub others : OthersStay old.taken new.taken name
   pub rest : Untouched (record old { taken = new.taken }) new
 
+-- nothing changed but a file, and what its writing and its keeping count
+pub record OnlyWrote (old new : Said) (name : List ℕ) : Type 0 where
+  pub files : OthersStay old.file new.file name
+  pub writes : OthersStay old.writes new.writes name
+  pub unkept : OthersStay old.unkept new.unkept name
+  pub rest : Untouched (record old { file = new.file; writes = new.writes; unkept = new.unkept }) new
+
 -- why a name gave no survey, and that nothing changed but what this counts
 abbrev pub NoSurvey : Bool → Said → Said → List ℕ → status.Status → Type 0
 NoSurvey tells old new name (OpenFault at) = (at ≡ SURVEY) × Rose (old.unopened name) (new.unopened name) × Untouched (record old { unopened = new.unopened }) new
@@ -58,13 +65,14 @@ KeepsText tells old new name bytes why.WriteFault = HoldsPart tells old new name
 KeepsText tells old new name bytes why.Memory = HoldsPart tells old new name bytes × (new.writes name ≡ old.writes name)
 KeepsText tells old new name bytes _ = ⊥
 
--- how the writing of a whole text ended, and what its file and its count of failed writes are then
-abbrev pub Writes : Bool → Said → Said → List ℕ → List ℕ → status.Status → Type 0
-Writes tells old new out bytes Done = KeepsText tells old new out bytes why.Finished
-Writes tells old new out bytes (OpenFault at) = (at ≡ OUT) × AllStay old.file new.file × Rose (old.writes out) (new.writes out)
-Writes tells old new out bytes (WriteFault at) = (at ≡ OUT) × KeepsText tells old new out bytes why.WriteFault
-Writes tells old new out bytes Memory = (AllStay old.file new.file ⊎ HoldsPart tells old new out bytes) × (new.writes out ≡ old.writes out)
-Writes tells old new out bytes _ = ⊥
+-- how the writing of a whole text to the name at a place of the command line ended, and what its file and its count
+-- of failed writes are then
+abbrev pub Writes : Bool → Said → Said → ℕ → List ℕ → List ℕ → status.Status → Type 0
+Writes tells old new place out bytes Done = KeepsText tells old new out bytes why.Finished
+Writes tells old new place out bytes (OpenFault at) = (at ≡ place) × AllStay old.file new.file × Rose (old.writes out) (new.writes out)
+Writes tells old new place out bytes (WriteFault at) = (at ≡ place) × KeepsText tells old new out bytes why.WriteFault
+Writes tells old new place out bytes Memory = (AllStay old.file new.file ⊎ HoldsPart tells old new out bytes) × (new.writes out ≡ old.writes out)
+Writes tells old new place out bytes _ = ⊥
 
 -- how a command over a survey of these bytes, which it may refuse with a status, ends where that was opened and
 -- read without a fault, and what else it needs has none; want of memory is always free
@@ -89,7 +97,7 @@ refuses_none b = None
 -- what a command made of a survey that was read: its text was written, or why not; or the survey is refused, and
 -- nothing changed but how much was taken of it
 abbrev pub Makes : Bool → Said → Said → List ℕ → List ℕ → Option status.Status → List ℕ → status.Status → Type 0
-Makes tells old new survey out None text ended = Writes tells old new out text ended
+Makes tells old new survey out None text ended = Writes tells old new OUT out text ended
 Makes tells old new survey out (Some refusal) text ended = (ended ≡ refusal) × OnlyTook old new survey
 
 -- what a command makes of the survey of one name, which it may refuse with a status, and writes into the file of

@@ -6,6 +6,7 @@ ghost use Rattle.view_meaning.specs.Picture.{can_colour};
 ghost use Rattle.view_meaning.specs.Survey.{format_of};
 ghost use Rattle.view_words.specs.CommandLine.{IsLine, texts};
 
+use crate::places::OUT;
 use crate::status::Status;
 use crate::texts::{read_survey, write_text};
 use class_pages::base;
@@ -88,7 +89,7 @@ fn draw_file<R: Threads + Sync, D: Desk, B: Beside>(
         return Status::NoColour { format };
     }
     match picture_of(alloc, rt, survey, view, workers, beside) {
-        Ok(bytes) => write_text(desk, out, bytes.as_slice()),
+        Ok(bytes) => write_text(desk, OUT, out, bytes.as_slice()),
         Err(OutOfMemory) => Status::Memory,
     }
 }

@@ -5,6 +5,7 @@ ghost use Rattle.view_commands.specs.Texts.{MakesText, refuses_none};
 ghost use Rattle.view_base.specs.Fitting.{word_at};
 ghost use Rattle.view_words.specs.CommandLine.{IsLine, texts};
 
+use crate::places::OUT;
 use crate::status::Status;
 use crate::texts::{read_survey, write_text};
 use las_survey::Survey;
@@ -45,7 +46,7 @@ fn info_file<D: Desk>(alloc: Global, name: &str, out: &str, desk: &mut D) -> Sta
         Err(status) => return status,
     };
     match text_of(alloc, &survey) {
-        Ok(bytes) => write_text(desk, out, bytes.as_slice()),
+        Ok(bytes) => write_text(desk, OUT, out, bytes.as_slice()),
         Err(OutOfMemory) => Status::Memory,
     }
 }

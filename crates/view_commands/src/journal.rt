@@ -2,8 +2,8 @@ ghost use Rattle.std.specs.Prelude.{◌≡◌, ◌++◌, [], ◌∷◌, IfOk, On
 ghost use Rattle.version_store.specs.Histories.{journal, edit_in};
 ghost use Rattle.view_ends.specs.Desk.{IsKnown};
 ghost use Rattle.view_commands.specs.Serve.{journal_text};
-ghost use Rattle.view_commands.specs.Steps.{IsUnwritten, OnlyWrote};
-ghost use Rattle.view_commands.specs.Texts.{KeepsText};
+ghost use Rattle.view_commands.specs.Steps.{IsUnwritten};
+ghost use Rattle.view_commands.specs.Texts.{KeepsText, OnlyWrote};
 
 use crate::texts::keep_text;
 use edit_ops::{Edit, edit_text};

@@ -4,6 +4,9 @@ pub(crate) const SURVEY: u32 = 1;
 /// The place of the name of what a `draw` or an `info` writes.
 pub(crate) const OUT: u32 = 2;
 
+/// The place of the name of what a `trial` writes.
+pub(crate) const TRIAL_OUT: u32 = 4;
+
 /// The place of the journal's name in a `serve`.
 pub(crate) const JOURNAL: u32 = 3;
 

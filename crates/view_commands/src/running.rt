@@ -7,6 +7,7 @@ use crate::informing::info;
 use crate::serving::serve;
 use crate::status::Status;
 use crate::told::{Ended, Told};
+use crate::trying::trial;
 use std::alloc::Global;
 use std::sync::Wait;
 use std::thread::Threads;
@@ -43,10 +44,7 @@ fn run_row<R: Threads + Wait + Sync, D: Desk, B: Beside>(
     match row {
         Row::Draw => Ended::only(alloc, draw(alloc, rt, words, desk, beside)),
         Row::Info => Ended::only(alloc, info(alloc, words, desk)),
-        Row::Trial => match read_row(Row::Trial, words) {
-            Ok(()) => Ended::only(alloc, Status::NotYet),
-            Err(at) => Ended::only(alloc, Status::Words { at }),
-        },
+        Row::Trial => Ended::only(alloc, trial(alloc, rt, words, desk, beside)),
         Row::Serve => match read_row(Row::Serve, words) {
             Ok(()) => serve(alloc, rt, words, desk, beside),
             Err(at) => Ended::only(alloc, Status::Words { at }),

@@ -37,8 +37,6 @@ pub enum Status {
     SessionLimit { at: u32 },
     /// Want of memory.
     Memory,
-    /// What the words ask for is not built yet.
-    NotYet,
 }
 
 /// The exit status of the program for a status.
@@ -57,7 +55,6 @@ pub fn code(status: &Status) -> u8
         Status::WriteFault { .. } => 9,
         Status::SessionLimit { .. } => 10,
         Status::Memory => 11,
-        Status::NotYet => 12,
     }
 }
 
@@ -139,7 +136,6 @@ impl fmt::Display for Status {
             Status::WriteFault { at } => write!(f, "cannot write word {at}"),
             Status::SessionLimit { at } => write!(f, "session input of word {at} is too long"),
             Status::Memory => f.write_str("out of memory"),
-            Status::NotYet => f.write_str("not built yet"),
         }
     }
 }

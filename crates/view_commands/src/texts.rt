@@ -2,10 +2,10 @@ ghost use Rattle.std.specs.Prelude.{◌≡◌, IfErr, IfOk};
 ghost use Rattle.sessions.specs.Listening as listening;
 ghost use Rattle.view_ends.specs.Desk.{IsKnown};
 ghost use Rattle.view_meaning.specs.Layout.{IsLaid};
-ghost use Rattle.view_commands.specs.Steps.{IsUnwritten, OnlyWrote};
-ghost use Rattle.view_commands.specs.Texts.{IsReadWhole, KeepsText, NoSurvey, OnlyTook, Writes};
+ghost use Rattle.view_commands.specs.Steps.{IsUnwritten};
+ghost use Rattle.view_commands.specs.Texts.{IsReadWhole, KeepsText, NoSurvey, OnlyTook, OnlyWrote, Writes};
 
-use crate::places::{OUT, SURVEY};
+use crate::places::SURVEY;
 use crate::status::{Status, status_at};
 use las_survey::{LoadFault, Survey, load};
 use sessions::Reason;
@@ -41,14 +41,14 @@ pub(crate) fn read_survey<D: Desk>(
     }
 }
 
-/// Writes the whole text that a command made of a survey.
-pub(crate) fn write_text<D: Desk>(desk: &mut D, out: &str, text: &[u8]) -> Status
-    ensures written { Writes D.tells (D.says desk.old) (D.says desk.new) out.now text.now result }
+/// Writes a whole text into the file of the name that stands at a place of the command line.
+pub(crate) fn write_text<D: Desk>(desk: &mut D, at: u32, out: &str, text: &[u8]) -> Status
+    ensures written { Writes D.tells (D.says desk.old) (D.says desk.new) at out.now text.now result }
     ensures only { OnlyWrote (D.says desk.old) (D.says desk.new) out.now }
 {
     match desk.open_out(out) {
-        Ok(output) => status_at(SURVEY, OUT, keep_text(desk, out, output, text)),
-        Err(EndFault::Failed) => Status::OpenFault { at: OUT },
+        Ok(output) => status_at(at, at, keep_text(desk, out, output, text)),
+        Err(EndFault::Failed) => Status::OpenFault { at },
         Err(EndFault::Memory) => Status::Memory,
     }
 }
