@@ -1,5 +1,7 @@
 ghost use Rattle.std.specs.Prelude.{◌≡◌, ℕ, ◌+◌, ◌/◌, ◌%◌, ◌<◌, ◌≤◌, ◌^◌, ◌≢◌, All, IfOk, IsSome, List, OnOk, [], length, map, slice_index};
 ghost use Rattle.std.specs.List.{range_with_len};
+ghost use Rattle.std.specs.List.Sorted.{IsPermutation, IsSorted};
+ghost use Rattle.std.specs.Ordering.{nat_cmp};
 ghost use Rattle.grid_blocks.specs.Blocks.{IsBlocks, IsCut, part};
 ghost use Rattle.grid_blocks.specs.Cells.{IsByCells, IsRun};
 ghost use Rattle.grid_blocks.specs.LeastBox.{IsLeastBox};
@@ -13,7 +15,9 @@ use crate::grid::Grid;
 use crate::least_box::{box_of_points, box_of_records};
 use las_points::xyz;
 use las_survey::Survey;
+use rayon::slice::par_sort_unstable;
 use std::alloc::Global;
+use std::thread::Threads;
 use view_base::{Listing, OutOfMemory, Point};
 
 /// The most members of a block.
@@ -24,7 +28,13 @@ pub(crate) const MOST: usize = 1024;
 /// and those of one cell are cut into blocks of 1024, the last one with what is left. Holds the
 /// records' points and withheld bits beside their numbers, in the order of places. Two passes over
 /// the records, a sort, and one more pass in the order of places.
-pub fn build(alloc: Global, survey: &Survey) -> Result<Blocks, OutOfMemory>
+pub fn build<R: Threads + Sync>(
+    alloc: Global,
+    rt: &R,
+    workers: u32,
+    survey: &Survey,
+) -> Result<Blocks, OutOfMemory>
+    requires workers { (1 ≤ workers) × (workers ≤ 64) }
     ensures blocks { IfOk result (IsBlocks survey.now) }
     ensures cells { 1 ≤ record_count survey.now → IfOk result (IsByCells survey.now) }
     ensures held { IfOk result (λ blocks. IsSome blocks.copies) }
@@ -32,24 +42,34 @@ pub fn build(alloc: Global, survey: &Survey) -> Result<Blocks, OutOfMemory>
     if survey.records() == 0 {
         return Ok(Blocks::none(alloc));
     }
-    build_some(alloc, survey)
+    build_some(alloc, rt, workers, survey)
 }
 
 /// The blocks by cells of a survey with records.
-fn build_some(alloc: Global, survey: &Survey) -> Result<Blocks, OutOfMemory>
+fn build_some<R: Threads + Sync>(
+    alloc: Global,
+    rt: &R,
+    workers: u32,
+    survey: &Survey,
+) -> Result<Blocks, OutOfMemory>
     requires { 1 ≤ record_count survey.now }
     ensures blocks { IfOk result (IsBlocks survey.now) }
     ensures cells { IfOk result (IsByCells survey.now) }
     ensures held { IfOk result (λ blocks. IsSome blocks.copies) }
 {
-    let words = order(alloc, survey)?;
+    let words = order(alloc, rt, workers, survey)?;
     let copies = Copies::of(alloc, survey, &words)?;
     let list = blocks_of(alloc, &words, &copies.points)?;
     Ok(Blocks::of_copies(list, copies))
 }
 
 /// The words of all records, rising: each has the key of a record's cell above its number.
-fn order(alloc: Global, survey: &Survey) -> Result<Vec<u64>, OutOfMemory>
+fn order<R: Threads + Sync>(
+    alloc: Global,
+    rt: &R,
+    workers: u32,
+    survey: &Survey,
+) -> Result<Vec<u64>, OutOfMemory>
     requires { 1 ≤ record_count survey.now }
     ensures order { IfOk result (λ words. IsOrder survey.now words.items) }
     ensures size { IfOk result (λ words. length words.items ≡ record_count survey.now) }
@@ -58,8 +78,20 @@ fn order(alloc: Global, survey: &Survey) -> Result<Vec<u64>, OutOfMemory>
 {
     let grid = Grid::of(box_of_records(survey, 0, survey.records()));
     let mut words = words_of(alloc, survey, &grid)?;
-    words.sort_unstable();
+    sort(rt, workers, &mut words);
     Ok(words)
+}
+
+/// Sorts words, by threads where there is more than one worker.
+fn sort<R: Threads + Sync>(rt: &R, workers: u32, words: &mut Vec<u64>)
+    ensures permutation { IsPermutation words.old.items words.new.items }
+    ensures sorted { IsSorted nat_cmp words.new.items }
+{
+    if workers < 2 {
+        words.sort_unstable();
+    } else {
+        par_sort_unstable(rt, words);
+    }
 }
 
 /// The word of each record, in the order of numbers.

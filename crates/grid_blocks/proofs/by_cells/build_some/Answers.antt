@@ -4,7 +4,7 @@ use Rattle.grid_blocks.proofs.Orders.{IsBuilt, built_of, built_blocks, built_by_
 use Rattle.grid_blocks.proofs.by_cells.build_some.Goals as goal
 
 pub returns-clause-blocks : goal.returns-clause-blocks
-returns-clause-blocks c =
+returns-clause-blocks g c =
     let b = c.args.survey.now in
     let built : IsBuilt b c.in_ok-words.words.items c.of_copies.result =
     built_of b c.in_ok-words.words.items c.deref.result.now c.deref-2.result.now c.deref-3.result.now c.in_ok-list.list.items c.of_copies.result c.in_ok-words.ensures.order c.in_ok-words.ensures.few
@@ -15,7 +15,7 @@ returns-clause-blocks c =
     (c.in_ok-copies.ensures.points ∙ ap (map (point_of b)) (sym c.of_copies.ensures.members)) (c.in_ok-copies.ensures.withheld ∙ ap (map (withheld_of b)) (sym c.of_copies.ensures.members)))
 
 pub returns-clause-cells : goal.returns-clause-cells
-returns-clause-cells c =
+returns-clause-cells g c =
     let b = c.args.survey.now in
     built_by_cells b c.in_ok-words.words.items c.of_copies.result
     (built_of b c.in_ok-words.words.items c.deref.result.now c.deref-2.result.now c.deref-3.result.now c.in_ok-list.list.items c.of_copies.result c.in_ok-words.ensures.order c.in_ok-words.ensures.few
