@@ -58,7 +58,7 @@ fn build_some<R: Threads + Sync>(
     ensures held { IfOk result (λ blocks. IsSome blocks.copies) }
 {
     let words = order(alloc, rt, workers, survey)?;
-    let copies = Copies::of(alloc, survey, &words)?;
+    let copies = Copies::of(alloc, rt, workers, survey, &words)?;
     let list = blocks_of(alloc, &words, &copies.points)?;
     Ok(Blocks::of_copies(list, copies))
 }
