@@ -10,18 +10,11 @@ use crate::by_cells::MOST;
 use crate::least_box::box_of_records;
 use las_survey::Survey;
 use std::alloc::Global;
-use std::thread::Threads;
 use view_base::{Listing, OutOfMemory};
 
 /// The blocks of a survey in the order of record numbers, 1024 in each but the last one, which has
 /// what is left. One pass over the records for the boxes; holds no list of members and no copies.
-pub fn build_by_number<R: Threads + Sync>(
-    alloc: Global,
-    _rt: &R,
-    workers: u32,
-    survey: &Survey,
-) -> Result<Blocks, OutOfMemory>
-    requires workers { (1 ≤ workers) × (workers ≤ 64) }
+pub fn build_by_number(alloc: Global, survey: &Survey) -> Result<Blocks, OutOfMemory>
     ensures blocks { IfOk result (IsBlocks survey.now) }
     ensures order { IfOk result (λ blocks. blocks.members ≡ range_with_len 0 (record_count survey.now)) }
     ensures full { IfOk result (λ blocks. All (λ block. block.count < 1024 → block.first + block.count ≡ record_count survey.now) blocks.blocks) }

@@ -86,13 +86,13 @@ fn by_cells<R: Abort + Threads + Sync>(
 }
 
 /// The blocks by number of a survey are these.
-fn by_number<R: Abort + Threads + Sync>(
-    rt: &R,
+fn by_number(
+    rt: &impl Abort,
     alloc: Global,
     survey: &Survey,
     wanted: &[[u32; 3]],
 ) -> Result<(), Fail> {
-    let blocks = build_by_number(alloc, rt, 1, survey)?;
+    let blocks = build_by_number(alloc, survey)?;
     blocks_are(rt, &blocks, wanted);
     Ok(())
 }
@@ -199,33 +199,31 @@ fn same_copies(rt: &impl Abort, these: &Blocks, others: &Blocks) {
     }
 }
 
-/// So many workers make the blocks by cells, and the blocks by number, that one makes.
+/// So many workers make the blocks by cells that one makes.
 fn same_by<R: Abort + Threads + Sync>(
     rt: &R,
     alloc: Global,
-    workers: u32,
     survey: &Survey,
-) -> Result<(), Fail>
+    alone: &Blocks,
+    workers: u32,
+) -> Result<(), OutOfMemory>
     requires workers { (1 ≤ workers) × (workers ≤ 64) }
 {
-    let alone = build(alloc, rt, 1, survey)?;
     let shared = build(alloc, rt, workers, survey)?;
-    same_blocks(rt, &shared, &alone);
-    same_copies(rt, &shared, &alone);
-    let alone = build_by_number(alloc, rt, 1, survey)?;
-    let shared = build_by_number(alloc, rt, workers, survey)?;
-    same_blocks(rt, &shared, &alone);
+    same_blocks(rt, &shared, alone);
+    same_copies(rt, &shared, alone);
     Ok(())
 }
 
-/// Each number of workers makes the blocks that one makes.
+/// Each number of workers makes the blocks by cells that one makes.
 fn same_by_all<R: Abort + Threads + Sync>(
     rt: &R,
     alloc: Global,
     survey: &Survey,
-) -> Result<(), Fail> {
+) -> Result<(), OutOfMemory> {
+    let alone = build(alloc, rt, 1, survey)?;
     for workers in [2, 3, 64] {
-        same_by(rt, alloc, workers, survey)?;
+        same_by(rt, alloc, survey, &alone, workers)?;
     }
     Ok(())
 }
@@ -233,7 +231,8 @@ fn same_by_all<R: Abort + Threads + Sync>(
 #[test]
 fn blocks_are_the_same_by_each_number_of_workers(rt: HostRuntime) -> Result<(), Fail> {
     let survey = spread(rt.alloc())?;
-    same_by_all(&rt, rt.alloc(), &survey)
+    same_by_all(&rt, rt.alloc(), &survey)?;
+    Ok(())
 }
 
 #[test]
@@ -241,5 +240,6 @@ fn records_at_one_point_are_the_same_by_each_number_of_workers(
     rt: HostRuntime,
 ) -> Result<(), Fail> {
     let survey = survey(rt.alloc(), 5000, &[])?;
-    same_by_all(&rt, rt.alloc(), &survey)
+    same_by_all(&rt, rt.alloc(), &survey)?;
+    Ok(())
 }

@@ -136,7 +136,7 @@ fn word_by<R: Threads + Sync>(
     requires { (1 ≤ workers) × (workers ≤ 64) }
 {
     let classes = base(alloc, survey)?;
-    let blocks = build_by_number(alloc, rt, workers, survey)?;
+    let blocks = build_by_number(alloc, survey)?;
     let words = nearest_words(
         alloc, rt, survey, &classes, &blocks, view, workers, &NoBeside,
     )?;
@@ -319,7 +319,7 @@ fn compare<R: Abort + Threads + Sync>(
     let classes = base(alloc, survey)?;
     let by_cells = build(alloc, rt, 1, survey)?;
     draws(rt, alloc, survey, &classes, &by_cells, view, &wanted)?;
-    let by_number = build_by_number(alloc, rt, 1, survey)?;
+    let by_number = build_by_number(alloc, survey)?;
     draws(rt, alloc, survey, &classes, &by_number, view, &wanted)
 }
 

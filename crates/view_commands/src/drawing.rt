@@ -106,7 +106,7 @@ fn picture_of<R: Threads + Sync, B: Beside>(
     requires can_colour { can_colour (format_of survey) view.now.colouring ≡ true }
     ensures { IfOk result (λ bytes. bytes.items ≡ drawn survey view.now) }
 {
-    let blocks = build_by_number(alloc, rt, workers, &survey)?;
+    let blocks = build_by_number(alloc, &survey)?;
     let scene = Scene {
         survey: Arc::new(alloc, survey)?,
         blocks,
