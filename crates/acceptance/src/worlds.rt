@@ -2,25 +2,25 @@ ghost use Rattle.std.specs.Prelude.{◌≡◌, ◌+◌, ◌-◌, ◌^◌, ◌<�
 ghost use Rattle.sessions.specs.Worlds.{IsWorld, HasGivenBack};
 ghost use Rattle.version_store.specs.Sharing.{IsOwn};
 
+use crate::host::Host;
 use crate::plain::{ONE, plain};
 use grid_blocks::build;
 use las_survey::load;
 use sessions::{Scene, World};
 use std::alloc::Global;
-use std::process::Abort;
 use std::sync::Arc;
 use std::test::Fail;
 use version_store::{Pass, Shared};
 use view_ends::StillSource;
 
 /// A world of one point, whose pictures one worker draws, and the root of its passes.
-pub(crate) fn world(rt: &impl Abort, alloc: Global) -> Result<(World, Pass), Fail>
+pub(crate) fn world(rt: &impl Host, alloc: Global) -> Result<(World, Pass), Fail>
     ensures world { IfOk result (λ r. IsWorld r.0) }
     ensures root { IfOk result (λ r. r.1 ≡ record { gate = r.0.shared.name; who = 0; seen = []; mine = []; turn = None; root = true; out = 0; given = 0; kept = [] }) }
 {
     let mut file = StillSource::new(plain(alloc, &ONE)?);
     let survey = load(alloc, &mut file).expect(rt, "a survey");
-    let blocks = Arc::new(alloc, build(alloc, &survey)?)?;
+    let blocks = Arc::new(alloc, build(alloc, rt, 1, &survey)?)?;
     let survey = Arc::new(alloc, survey)?;
     let (shared, root) = Shared::over(alloc, Arc::try_clone(&survey)?, Arc::try_clone(&blocks)?)?;
     let scene = Scene {

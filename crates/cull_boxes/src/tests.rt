@@ -5,6 +5,7 @@ use las_survey::{Survey, load};
 use std::alloc::Global;
 use std::process::Abort;
 use std::test::Fail;
+use std::thread::Threads;
 use view_base::{Box3, Bytes, OutOfMemory, Point};
 use view_ends::StillSource;
 
@@ -62,8 +63,13 @@ fn one_pixel(rt: &impl Abort) -> Camera {
 }
 
 /// The camera of one pixel keeps these blocks of a survey.
-fn keeps(rt: &impl Abort, alloc: Global, survey: &Survey, wanted: &[u32]) -> Result<(), Fail> {
-    let blocks = build(alloc, survey)?;
+fn keeps<R: Abort + Threads + Sync>(
+    rt: &R,
+    alloc: Global,
+    survey: &Survey,
+    wanted: &[u32],
+) -> Result<(), Fail> {
+    let blocks = build(alloc, rt, 1, survey)?;
     let kept = kept(alloc, &one_pixel(rt), &blocks)?;
     assert_eq!(rt; kept.count() as usize, wanted.len());
     for i in 0..kept.count() {

@@ -1,20 +1,22 @@
 -- The least box of some points, and of one point more.
 use Rattle.std.proofs.Common.{◌≡◌, ℕ, ℤ, ◌+◌, ◌<◌, ◌≤◌, ◌&&◌, true, List, [], ◌∷◌, ◌++◌, length, get_or, take, map, inl, inr, refl, sym, ◌∙◌, ap, subst, arith}
-use Rattle.std.specs.Prelude.{◌⊎◌, IsTrue}
+use Rattle.std.specs.Prelude.{◌⊎◌, All, IsTrue}
 use Rattle.std.specs.Int.{int_min, int_max}
 use Rattle.std.specs.List.{Any, range_with_len}
 use Rattle.std.proofs.lemmas.Int.{ints}
 use Rattle.std.proofs.lemmas.Bool.{and_parts, and_from}
 use Rattle.std.proofs.lemmas.List.{get_or_append_left, length-append, take_more}
 use Rattle.std.proofs.lemmas.List.FromFn.{map-range_with_len_more, length-map-range_with_len, get_or-map-range_with_len}
-use Rattle.std.proofs.lemmas.List.Elements.{All-push, All-weaker, All-cons, All-nil}
+use Rattle.std.proofs.lemmas.List.Elements.{All-push, All-weaker, All-cons, All-nil, All-append}
 use Rattle.std.proofs.lemmas.List.Quantifiers.{Any-push}
+use Rattle.rayon.proofs.ListFacts.{Any-append_right}
 use lib.Signed.{le_z}
 use Rattle.view_base.specs.declared.place.Point.{Point}
 use Rattle.view_base.specs.declared.place.Box3.{Box3}
 use Rattle.view_meaning.specs.Survey.{point_of}
 use Rattle.view_meaning.specs.Classes.{in_box}
 use Rattle.grid_blocks.specs.LeastBox.{IsLeastBox}
+use Rattle.grid_blocks.proofs.Filling.{made-halves}
 
 -- a point lies in a box, coordinate by coordinate
 pub record IsInside (area : Box3) (p : Point) : Type 0 where
@@ -102,6 +104,68 @@ min_cases new old p is = grind (arith, ints)
 
 max_cases : (new old p : ℤ) → new ≡ int_max old p → (new ≡ old) ⊎ (new ≡ p)
 max_cases new old p is = grind (arith, ints)
+
+-- the corners of the least box that holds two boxes
+pub record IsJoined (a b wide : Box3) : Type 0 where
+  pub min_x : wide.min.x ≡ int_min a.min.x b.min.x
+  pub min_y : wide.min.y ≡ int_min a.min.y b.min.y
+  pub min_z : wide.min.z ≡ int_min a.min.z b.min.z
+  pub max_x : wide.max.x ≡ int_max a.max.x b.max.x
+  pub max_y : wide.max.y ≡ int_max a.max.y b.max.y
+  pub max_z : wide.max.z ≡ int_max a.max.z b.max.z
+
+min_swap : (a b : ℤ) → int_min a b ≡ int_min b a
+min_swap a b = grind (arith, ints)
+
+max_swap : (a b : ℤ) → int_max a b ≡ int_max b a
+max_swap a b = grind (arith, ints)
+
+joined_swap : (a b wide : Box3) → IsJoined a b wide → IsJoined b a wide
+joined_swap a b wide j = record {
+  min_x = j.min_x ∙ min_swap a.min.x b.min.x;
+  min_y = j.min_y ∙ min_swap a.min.y b.min.y;
+  min_z = j.min_z ∙ min_swap a.min.z b.min.z;
+  max_x = j.max_x ∙ max_swap a.max.x b.max.x;
+  max_y = j.max_y ∙ max_swap a.max.y b.max.y;
+  max_z = j.max_z ∙ max_swap a.max.z b.max.z;
+}
+
+inside_joined : (a b wide : Box3) (q : Point) → IsJoined a b wide → IsInside a q → IsInside wide q
+inside_joined a b wide q j h = record {
+  above_x = below wide.min.x _ q.x j.min_x (lower_kept a.min.x b.min.x q.x h.above_x);
+  below_x = above wide.max.x _ q.x j.max_x (upper_kept a.max.x b.max.x q.x h.below_x);
+  above_y = below wide.min.y _ q.y j.min_y (lower_kept a.min.y b.min.y q.y h.above_y);
+  below_y = above wide.max.y _ q.y j.max_y (upper_kept a.max.y b.max.y q.y h.below_y);
+  above_z = below wide.min.z _ q.z j.min_z (lower_kept a.min.z b.min.z q.z h.above_z);
+  below_z = above wide.max.z _ q.z j.max_z (upper_kept a.max.z b.max.z q.z h.below_z);
+}
+
+all_joined : (points : List Point) (a b wide : Box3) → IsJoined a b wide → All (λ q. IsTrue (in_box a q)) points → All (λ q. IsTrue (in_box wide q)) points
+all_joined points a b wide j h =
+    All-weaker (λ q. IsTrue (in_box a q)) (λ q. IsTrue (in_box wide q)) (λ q is. in_box-from_inside wide q (inside_joined a b wide q j (inside-from_box a q is))) points h
+
+-- a face is met by a point of the one list or of the other
+met_either : (f : Point → ℤ) (xs ys : List Point) (x y new : ℤ) → (new ≡ x) ⊎ (new ≡ y) → Any (λ q. f q ≡ x) xs → Any (λ q. f q ≡ y) ys → Any (λ q. f q ≡ new) (xs ++ ys)
+met_either f xs ys x y new (inl same) met other = any-append_left (λ q. f q ≡ new) xs ys (met.0, met.1, met.2, met.3, met.4 ∙ sym same)
+met_either f xs ys x y new (inr same) met other = Any-append_right (λ q. f q ≡ new) xs ys (other.0, other.1, other.2, other.3, other.4 ∙ sym same)
+
+-- the least box of two lists of points, one after the other
+pub least_box-append : (xs ys : List Point) (a b wide : Box3) → IsJoined a b wide → IsLeastBox xs a → IsLeastBox ys b → IsLeastBox (xs ++ ys) wide
+least_box-append xs ys a b wide j h k = record {
+  within = All-append (λ q. IsTrue (in_box wide q)) xs ys (all_joined xs a b wide j h.within) (all_joined ys b a wide (joined_swap a b wide j) k.within);
+  min_x = met_either (λ q. q.x) xs ys a.min.x b.min.x wide.min.x (min_cases _ _ _ j.min_x) h.min_x k.min_x;
+  min_y = met_either (λ q. q.y) xs ys a.min.y b.min.y wide.min.y (min_cases _ _ _ j.min_y) h.min_y k.min_y;
+  min_z = met_either (λ q. q.z) xs ys a.min.z b.min.z wide.min.z (min_cases _ _ _ j.min_z) h.min_z k.min_z;
+  max_x = met_either (λ q. q.x) xs ys a.max.x b.max.x wide.max.x (max_cases _ _ _ j.max_x) h.max_x k.max_x;
+  max_y = met_either (λ q. q.y) xs ys a.max.y b.max.y wide.max.y (max_cases _ _ _ j.max_y) h.max_y k.max_y;
+  max_z = met_either (λ q. q.z) xs ys a.max.z b.max.z wide.max.z (max_cases _ _ _ j.max_z) h.max_z k.max_z;
+}
+
+-- the least box of records in two parts
+pub least_box-halves : (b : List ℕ) (first mid half rest n : ℕ) (wide : Box3) → mid ≡ first + half → half + rest ≡ n
+    → IsLeastBox (map (point_of b) (range_with_len first half) ++ map (point_of b) (range_with_len mid rest)) wide → IsLeastBox (map (point_of b) (range_with_len first n)) wide
+least_box-halves b first mid half rest n wide there whole h =
+    subst (λ (l : List Point). IsLeastBox l wide) (made-halves (point_of b) first mid half rest n _ _ there whole refl refl) h
 
 -- the least box of some points and one more
 pub least_box_more : (points : List Point) (area wide : Box3) (p : Point) → IsWidened area p wide → IsLeastBox points area → IsLeastBox (points ++ p ∷ []) wide

@@ -1,6 +1,7 @@
 pub mod Boxes
 pub mod Grids
 pub mod Filling
+pub mod Copying
 pub mod Cutting
 pub mod Runs
 pub mod Once

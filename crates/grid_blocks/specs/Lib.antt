@@ -3,3 +3,4 @@ pub mod Blocks
 pub mod Grid
 pub mod Cells
 pub mod Order
+pub mod Copying

@@ -1,5 +1,5 @@
 -- The words that put a survey's records in the order of cells.
-use Rattle.std.specs.Prelude.{ℕ, ◌+◌, ◌*◌, ◌^◌, List, map}
+use Rattle.std.specs.Prelude.{ℕ, ◌+◌, ◌*◌, ◌<◌, ◌≤◌, ◌^◌, List, length, map}
 use Rattle.std.specs.List.{range_with_len}
 use Rattle.std.specs.List.Sorted.{IsPermutation, IsNonDecreasing}
 use Rattle.view_base.specs.declared.place.Box3.{Box3}
@@ -19,3 +19,9 @@ pub record IsOrder (b words : List ℕ) : Type 0 where
   pub is_exponent : IsExponent area exponent
   pub all : IsPermutation (map (word_of b area exponent) (range_with_len 0 (record_count b))) words
   pub rising : IsNonDecreasing words
+
+-- a list has a place for each of some records from a first on, all of which lie in a box
+pub record CanOrder (b : List ℕ) (area : Box3) (first : ℕ) (words : List ℕ) : Type 0 where
+  pub within : first + length words ≤ record_count b
+  pub few : first + length words < 2 ^ 32
+  pub around : IsLeastBox (map (point_of b) (range_with_len 0 (record_count b))) area

@@ -1,19 +1,25 @@
 ghost use Rattle.std.specs.Prelude.{◌≡◌, ℕ, ◌+◌, ◌/◌, ◌%◌, ◌<◌, ◌≤◌, ◌^◌, ◌≢◌, All, IfOk, IsSome, List, OnOk, [], length, map, slice_index};
 ghost use Rattle.std.specs.List.{range_with_len};
+ghost use Rattle.std.specs.List.Sorted.{IsPermutation, IsSorted};
+ghost use Rattle.std.specs.Ordering.{nat_cmp};
+ghost use Rattle.std.specs.Thread.{IsSync};
 ghost use Rattle.grid_blocks.specs.Blocks.{IsBlocks, IsCut, part};
 ghost use Rattle.grid_blocks.specs.Cells.{IsByCells, IsRun};
 ghost use Rattle.grid_blocks.specs.LeastBox.{IsLeastBox};
-ghost use Rattle.grid_blocks.specs.Order.{IsOrder, word_of};
+ghost use Rattle.grid_blocks.specs.Order.{CanOrder, IsOrder, word_of};
 ghost use Rattle.view_meaning.specs.Survey.{point_of, record_count};
 
 use crate::block::Block;
 use crate::blocks::Blocks;
 use crate::copies::{Copies, NUMBER_BITS};
 use crate::grid::Grid;
-use crate::least_box::{box_of_points, box_of_records};
+use crate::least_box::{box_of_points, box_side_by_side};
+use crate::sharing::{SHARED, front_share};
 use las_points::xyz;
 use las_survey::Survey;
+use rayon::slice::par_sort_unstable;
 use std::alloc::Global;
+use std::thread::{Threads, join_mut};
 use view_base::{Listing, OutOfMemory, Point};
 
 /// The most members of a block.
@@ -24,7 +30,13 @@ pub(crate) const MOST: usize = 1024;
 /// and those of one cell are cut into blocks of 1024, the last one with what is left. Holds the
 /// records' points and withheld bits beside their numbers, in the order of places. Two passes over
 /// the records, a sort, and one more pass in the order of places.
-pub fn build(alloc: Global, survey: &Survey) -> Result<Blocks, OutOfMemory>
+pub fn build<R: Threads + Sync>(
+    alloc: Global,
+    rt: &R,
+    workers: u32,
+    survey: &Survey,
+) -> Result<Blocks, OutOfMemory>
+    requires workers { (1 ≤ workers) × (workers ≤ 64) }
     ensures blocks { IfOk result (IsBlocks survey.now) }
     ensures cells { 1 ≤ record_count survey.now → IfOk result (IsByCells survey.now) }
     ensures held { IfOk result (λ blocks. IsSome blocks.copies) }
@@ -32,55 +44,141 @@ pub fn build(alloc: Global, survey: &Survey) -> Result<Blocks, OutOfMemory>
     if survey.records() == 0 {
         return Ok(Blocks::none(alloc));
     }
-    build_some(alloc, survey)
+    build_some(alloc, rt, workers, survey)
 }
 
 /// The blocks by cells of a survey with records.
-fn build_some(alloc: Global, survey: &Survey) -> Result<Blocks, OutOfMemory>
-    requires { 1 ≤ record_count survey.now }
+fn build_some<R: Threads + Sync>(
+    alloc: Global,
+    rt: &R,
+    workers: u32,
+    survey: &Survey,
+) -> Result<Blocks, OutOfMemory>
+    requires some { 1 ≤ record_count survey.now }
+    requires workers { workers ≤ 64 }
     ensures blocks { IfOk result (IsBlocks survey.now) }
     ensures cells { IfOk result (IsByCells survey.now) }
     ensures held { IfOk result (λ blocks. IsSome blocks.copies) }
 {
-    let words = order(alloc, survey)?;
-    let copies = Copies::of(alloc, survey, &words)?;
+    let words = order(alloc, rt, workers, survey)?;
+    let copies = Copies::of(alloc, rt, workers, survey, &words)?;
     let list = blocks_of(alloc, &words, &copies.points)?;
     Ok(Blocks::of_copies(list, copies))
 }
 
 /// The words of all records, rising: each has the key of a record's cell above its number.
-fn order(alloc: Global, survey: &Survey) -> Result<Vec<u64>, OutOfMemory>
-    requires { 1 ≤ record_count survey.now }
+fn order<R: Threads + Sync>(
+    alloc: Global,
+    rt: &R,
+    workers: u32,
+    survey: &Survey,
+) -> Result<Vec<u64>, OutOfMemory>
+    requires some { 1 ≤ record_count survey.now }
+    requires workers { workers ≤ 64 }
     ensures order { IfOk result (λ words. IsOrder survey.now words.items) }
     ensures size { IfOk result (λ words. length words.items ≡ record_count survey.now) }
     ensures numbers { IfOk result (λ words. All (λ word. word % 2 ^ 26 < record_count survey.now) words.items) }
     ensures few { record_count survey.now ≤ 53687091 }
 {
-    let grid = Grid::of(box_of_records(survey, 0, survey.records()));
-    let mut words = words_of(alloc, survey, &grid)?;
-    words.sort_unstable();
+    let grid = Grid::of(box_side_by_side(rt, workers, survey, 0, survey.records()));
+    let mut words = words_of(alloc, rt, workers, survey, &grid)?;
+    sort(rt, workers, &mut words);
     Ok(words)
+}
+
+/// Sorts words, by threads where there is more than one worker.
+fn sort<R: Threads + Sync>(rt: &R, workers: u32, words: &mut Vec<u64>)
+    ensures permutation { IsPermutation words.old.items words.new.items }
+    ensures sorted { IsSorted nat_cmp words.new.items }
+{
+    if workers < 2 {
+        words.sort_unstable();
+    } else {
+        par_sort_unstable(rt, words);
+    }
 }
 
 /// The word of each record, in the order of numbers.
-fn words_of(alloc: Global, survey: &Survey, grid: &Grid) -> Result<Vec<u64>, OutOfMemory>
-    requires { IsLeastBox (map (point_of survey.now) (range_with_len 0 (record_count survey.now))) grid.now.area }
+fn words_of<R: Threads + Sync>(
+    alloc: Global,
+    rt: &R,
+    workers: u32,
+    survey: &Survey,
+    grid: &Grid,
+) -> Result<Vec<u64>, OutOfMemory>
+    requires around { IsLeastBox (map (point_of survey.now) (range_with_len 0 (record_count survey.now))) grid.now.area }
     ensures { IfOk result (λ words. words.items ≡ map (word_of survey.now grid.now.area grid.now.exponent) (range_with_len 0 (record_count survey.now))) }
 {
     let mut words = vec![in alloc; 0u64; survey.records() as usize]?;
-    write_words(&mut words, survey, grid);
+    write_side_by_side(rt, workers, &mut words, survey, grid, 0);
     Ok(words)
 }
 
-/// Writes the word of each record.
-fn write_words(words: &mut [u64], survey: &Survey, grid: &Grid)
-    requires size { length words.old ≡ record_count survey.now }
-    requires around { IsLeastBox (map (point_of survey.now) (range_with_len 0 (record_count survey.now))) grid.now.area }
-    ensures { words.new ≡ map (word_of survey.now grid.now.area grid.now.exponent) (range_with_len 0 (record_count survey.now)) }
+/// Writes the words of the records from a number on, by workers side by side, each with its share of
+/// them, or by one where they are few.
+#[cycle(halves)]
+fn write_side_by_side<R: Threads + Sync>(
+    rt: &R,
+    workers: u32,
+    words: &mut [u64],
+    survey: &Survey,
+    grid: &Grid,
+    first: u32,
+)
+    requires { CanOrder survey.now grid.now.area first words.old }
+    ensures { words.new ≡ map (word_of survey.now grid.now.area grid.now.exponent) (range_with_len first (length words.old)) }
 {
-    for i in 0..survey.records() {
+    if workers < 2 || words.len() < SHARED {
+        write_words(words, survey, grid, first);
+        return;
+    }
+    let (front, back) = words.split_at_mut(front_share(words.len(), workers));
+    let mid = first + front.len() as u32;
+    write_both(rt, workers, front, back, survey, grid, first, mid);
+}
+
+/// Writes the words of the records from one number on and from another on, side by side.
+#[cycle(halves)]
+fn write_both<R: Threads + Sync>(
+    rt: &R,
+    workers: u32,
+    front: &mut [u64],
+    back: &mut [u64],
+    survey: &Survey,
+    grid: &Grid,
+    first: u32,
+    mid: u32,
+)
+    requires workers { 2 ≤ workers }
+    requires front { CanOrder survey.now grid.now.area first front.old }
+    requires back { CanOrder survey.now grid.now.area mid back.old }
+    ensures front { front.new ≡ map (word_of survey.now grid.now.area grid.now.exponent) (range_with_len first (length front.old)) }
+    ensures back { back.new ≡ map (word_of survey.now grid.now.area grid.now.exponent) (range_with_len mid (length back.old)) }
+{
+    let front_workers = workers / 2;
+    let back_workers = workers - front_workers;
+    join_mut(
+        rt,
+        &mut ||
+            requires { IsSync R.row × CanOrder survey.now grid.now.area first front.now }
+            ensures { front.exit.now ≡ map (word_of survey.entry.now grid.entry.now.area grid.entry.now.exponent) (range_with_len first (length front.entry.now)) }
+        { write_side_by_side(rt, front_workers, front, survey, grid, first) },
+        &mut ||
+            requires { IsSync R.row × CanOrder survey.now grid.now.area mid back.now }
+            ensures { back.exit.now ≡ map (word_of survey.entry.now grid.entry.now.area grid.entry.now.exponent) (range_with_len mid (length back.entry.now)) }
+        { write_side_by_side(rt, back_workers, back, survey, grid, mid) },
+    );
+}
+
+/// Writes the words of the records from a number on.
+fn write_words(words: &mut [u64], survey: &Survey, grid: &Grid, first: u32)
+    requires { CanOrder survey.now grid.now.area first words.old }
+    ensures { words.new ≡ map (word_of survey.now grid.now.area grid.now.exponent) (range_with_len first (length words.old)) }
+{
+    for place in 0..words.len() {
+        let i = first + place as u32;
         let key = grid.key(xyz(survey.point_bytes(i)));
-        words[i as usize] = (key << NUMBER_BITS) + u64::from(i);
+        words[place] = (key << NUMBER_BITS) + u64::from(i);
     }
 }
 

@@ -1,10 +1,14 @@
 ghost use Rattle.std.specs.Prelude.{◌≡◌, ◌<◌, ◌%◌, ◌+◌, ◌≤◌, ◌^◌, [], All, IfOk, drop, length, map, take};
+ghost use Rattle.std.specs.Thread.{IsSync};
+ghost use Rattle.grid_blocks.specs.Copying.{AreCopied, CanCopy};
 ghost use Rattle.view_meaning.specs.Survey.{point_of, record_count, withheld_of};
 
 use crate::block::BlockRecords;
+use crate::sharing::{SHARED, front_share};
 use las_points::{withheld, xyz};
 use las_survey::Survey;
 use std::alloc::Global;
+use std::thread::{Threads, join_mut};
 use view_base::{OutOfMemory, Point};
 
 /// The low bits of an order's word, which have a record's number: a number is below 2^26.
@@ -35,16 +39,28 @@ impl Copies {
     }
 
     /// The records that an order's words name, in their order.
-    pub(crate) fn of(alloc: Global, survey: &Survey, words: &[u64]) -> Result<Copies, OutOfMemory>
+    pub(crate) fn of<R: Threads + Sync>(
+        alloc: Global,
+        rt: &R,
+        workers: u32,
+        survey: &Survey,
+        words: &[u64],
+    ) -> Result<Copies, OutOfMemory>
         requires { All (λ word. word % 2 ^ 26 < record_count survey.now) words.now }
-        ensures numbers { IfOk result (λ copies. copies.numbers.items ≡ map (λ word. word % 2 ^ 26) words.now) }
-        ensures points { IfOk result (λ copies. copies.points.items ≡ map (point_of survey.now) copies.numbers.items) }
-        ensures withheld { IfOk result (λ copies. copies.withheld.items ≡ map (withheld_of survey.now) copies.numbers.items) }
+        ensures { IfOk result (λ copies. AreCopied survey.now words.now copies.numbers.items copies.points.items copies.withheld.items) }
     {
-        let numbers = numbers_of(alloc, words)?;
+        let mut numbers = vec![in alloc; 0u32; words.len()]?;
         let mut points = vec![in alloc; Point { x: 0, y: 0, z: 0 }; words.len()]?;
         let mut withheld = vec![in alloc; false; words.len()]?;
-        write_records(&mut points, &mut withheld, survey, &numbers);
+        write_side_by_side(
+            rt,
+            workers,
+            &mut numbers,
+            &mut points,
+            &mut withheld,
+            survey,
+            words,
+        );
         Ok(Copies {
             numbers,
             points,
@@ -68,36 +84,80 @@ impl Copies {
     }
 }
 
-/// The number of the record that each word names.
-fn numbers_of(alloc: Global, words: &[u64]) -> Result<Vec<u32>, OutOfMemory>
-    ensures { IfOk result (λ numbers. numbers.items ≡ map (λ word. word % 2 ^ 26) words.now) }
+/// Writes the number, the point and the withheld bit of the records that words name, by workers side
+/// by side, each with its share of the words, or by one where they are few.
+fn write_side_by_side<R: Threads + Sync>(
+    rt: &R,
+    workers: u32,
+    numbers: &mut [u32],
+    points: &mut [Point],
+    bits: &mut [bool],
+    survey: &Survey,
+    words: &[u64],
+)
+    requires { CanCopy survey.now words.now numbers.old points.old bits.old }
+    ensures { AreCopied survey.now words.now numbers.new points.new bits.new }
 {
-    let mut numbers = vec![in alloc; 0u32; words.len()]?;
-    write_numbers(&mut numbers, words);
-    Ok(numbers)
-}
-
-/// Writes the number of the record that each word names.
-fn write_numbers(numbers: &mut [u32], words: &[u64])
-    requires { length numbers.old ≡ length words.now }
-    ensures { numbers.new ≡ map (λ word. word % 2 ^ 26) words.now }
-{
-    for place in 0..words.len() {
-        numbers[place] = (words[place] % (1 << NUMBER_BITS)) as u32;
+    if workers < 2 || words.len() < SHARED {
+        write_records(numbers, points, bits, survey, words);
+        return;
     }
+    let front_workers = workers / 2;
+    let back_workers = workers - front_workers;
+    let half = front_share(words.len(), workers);
+    let (front_words, back_words) = words.split_at(half);
+    let (front_numbers, back_numbers) = numbers.split_at_mut(half);
+    let (front_points, back_points) = points.split_at_mut(half);
+    let (front_bits, back_bits) = bits.split_at_mut(half);
+    join_mut(
+        rt,
+        &mut ||
+            requires { IsSync R.row × CanCopy survey.now front_words.now front_numbers.now front_points.now front_bits.now }
+            ensures { AreCopied survey.entry.now front_words.entry.now front_numbers.exit.now front_points.exit.now front_bits.exit.now }
+        {
+            write_side_by_side(
+                rt,
+                front_workers,
+                front_numbers,
+                front_points,
+                front_bits,
+                survey,
+                front_words,
+            )
+        },
+        &mut ||
+            requires { IsSync R.row × CanCopy survey.now back_words.now back_numbers.now back_points.now back_bits.now }
+            ensures { AreCopied survey.entry.now back_words.entry.now back_numbers.exit.now back_points.exit.now back_bits.exit.now }
+        {
+            write_side_by_side(
+                rt,
+                back_workers,
+                back_numbers,
+                back_points,
+                back_bits,
+                survey,
+                back_words,
+            )
+        },
+    );
 }
 
-/// Writes the point and the withheld bit of each of these records.
-fn write_records(points: &mut [Point], bits: &mut [bool], survey: &Survey, numbers: &[u32])
-    requires points { length points.old ≡ length numbers.now }
-    requires bits { length bits.old ≡ length numbers.now }
-    requires numbers { All (λ number. number < record_count survey.now) numbers.now }
-    ensures points { points.new ≡ map (point_of survey.now) numbers.now }
-    ensures bits { bits.new ≡ map (withheld_of survey.now) numbers.now }
+/// Writes the number, the point and the withheld bit of the record that each word names.
+fn write_records(
+    numbers: &mut [u32],
+    points: &mut [Point],
+    bits: &mut [bool],
+    survey: &Survey,
+    words: &[u64],
+)
+    requires { CanCopy survey.now words.now numbers.old points.old bits.old }
+    ensures { AreCopied survey.now words.now numbers.new points.new bits.new }
 {
     let format = survey.header().format;
-    for place in 0..numbers.len() {
-        let rec = survey.point_bytes(numbers[place]);
+    for place in 0..words.len() {
+        let number = (words[place] % (1 << NUMBER_BITS)) as u32;
+        let rec = survey.point_bytes(number);
+        numbers[place] = number;
         points[place] = xyz(rec);
         bits[place] = withheld(format, rec);
     }

@@ -1,12 +1,15 @@
 ghost use Rattle.std.specs.Prelude.{◌≡◌, ◌+◌, ◌<◌, ◌≤◌, ◌^◌, List, [], ◌∷◌, ◌++◌, length, map};
 ghost use Rattle.std.specs.Int.{int_min, int_max};
 ghost use Rattle.std.specs.List.{range_with_len};
-ghost use Rattle.grid_blocks.specs.LeastBox.{IsLeastBox};
+ghost use Rattle.std.specs.Thread.{IsSync};
+ghost use Rattle.grid_blocks.specs.LeastBox.{HasRecords, IsLeastBox};
 ghost use Rattle.view_base.specs.declared.place.Point as point;
 ghost use Rattle.view_meaning.specs.Survey.{point_of, record_count};
 
+use crate::sharing::{SHARED, front_share};
 use las_points::xyz;
 use las_survey::Survey;
+use std::thread::{Threads, join};
 use view_base::{Box3, Point};
 
 /// The least box of some points.
@@ -22,6 +25,50 @@ pub(crate) fn box_of_points(points: &[Point]) -> Box3
         area = widened(area, points[i]);
     }
     area
+}
+
+/// The least box of so many records from a number on, by workers side by side, each with its share
+/// of the records, or by one where they are few.
+pub(crate) fn box_side_by_side<R: Threads + Sync>(
+    rt: &R,
+    workers: u32,
+    survey: &Survey,
+    first: u32,
+    count: u32,
+) -> Box3
+    requires { HasRecords survey.now first count workers }
+    ensures { IsLeastBox (map (point_of survey.now) (range_with_len first count)) result }
+{
+    if workers < 2 || (count as usize) < SHARED {
+        return box_of_records(survey, first, count);
+    }
+    let front_workers = workers / 2;
+    let back_workers = workers - front_workers;
+    let half = front_share(count as usize, workers) as u32;
+    let mid = first + half;
+    let rest = count - half;
+    let (front, back) = join(
+        rt,
+        || -> Box3
+            requires { IsSync R.row × HasRecords survey.now first half front_workers }
+            ensures { IsLeastBox (map (point_of survey.entry.now) (range_with_len first half)) result }
+        { box_side_by_side(rt, front_workers, survey, first, half) },
+        || -> Box3
+            requires { IsSync R.row × HasRecords survey.now mid rest back_workers }
+            ensures { IsLeastBox (map (point_of survey.entry.now) (range_with_len mid rest)) result }
+        { box_side_by_side(rt, back_workers, survey, mid, rest) },
+    );
+    joined(front, back)
+}
+
+/// The least box that holds two boxes.
+fn joined(front: Box3, back: Box3) -> Box3
+    ensures { (xs ys : List point.Point) → IsLeastBox xs front → IsLeastBox ys back → IsLeastBox (xs ++ ys) result }
+{
+    Box3 {
+        min: lesser(front.min, back.min),
+        max: greater(front.max, back.max),
+    }
 }
 
 /// The least box of so many records from a number on.

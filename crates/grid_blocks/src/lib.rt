@@ -9,6 +9,7 @@ mod by_number;
 mod copies;
 mod grid;
 mod least_box;
+mod sharing;
 #[cfg(test)]
 mod tests;
 

@@ -1,8 +1,11 @@
+ghost use Rattle.std.specs.Prelude.{◌<◌, ◌≤◌, length};
+
 use crate::{Blocks, build, build_by_number};
 use las_survey::{Survey, load};
 use std::alloc::Global;
 use std::process::Abort;
 use std::test::Fail;
+use std::thread::Threads;
 use view_base::{Bytes, OutOfMemory, Point};
 use view_ends::StillSource;
 
@@ -71,13 +74,13 @@ fn blocks_are(rt: &impl Abort, blocks: &Blocks, wanted: &[[u32; 3]]) {
 }
 
 /// The blocks by cells of a survey are these.
-fn by_cells(
-    rt: &impl Abort,
+fn by_cells<R: Abort + Threads + Sync>(
+    rt: &R,
     alloc: Global,
     survey: &Survey,
     wanted: &[[u32; 3]],
 ) -> Result<(), Fail> {
-    let blocks = build(alloc, survey)?;
+    let blocks = build(alloc, rt, 1, survey)?;
     blocks_are(rt, &blocks, wanted);
     Ok(())
 }
@@ -139,10 +142,104 @@ fn has_the_origin(rt: &impl Abort, blocks: &Blocks) {
     assert_eq!(rt; records.withheld, [true].as_slice());
 }
 
+/// Block 4 of a survey's blocks by cells has the record at the origin.
+fn holds_the_origin<R: Abort + Threads + Sync>(
+    rt: &R,
+    alloc: Global,
+    survey: &Survey,
+) -> Result<(), Fail> {
+    let blocks = build(alloc, rt, 1, survey)?;
+    has_the_origin(rt, &blocks);
+    Ok(())
+}
+
 #[test]
 fn the_records_of_a_block_lie_side_by_side(rt: HostRuntime) -> Result<(), Fail> {
     let survey = survey(rt.alloc(), 7, &ENDS)?;
-    let blocks = build(rt.alloc(), &survey)?;
-    has_the_origin(&rt, &blocks);
+    holds_the_origin(&rt, rt.alloc(), &survey)
+}
+
+/// A survey of 5000 records at different places, in no order of space.
+fn spread(alloc: Global) -> Result<Survey, Fail> {
+    let mut bytes = Bytes::new(alloc);
+    append_header(&mut bytes, 5000)?;
+    for i in 0..5000i32 {
+        append_record(&mut bytes, [i * 7919 % 5003, i * 31 % 97, i % 11])?;
+    }
+    Ok(load(alloc, &mut StillSource::new(bytes))?)
+}
+
+/// Two lists of records have the same ones at the same places.
+fn same_records(rt: &impl Abort, these: &Blocks, others: &Blocks, k: u32)
+    requires these { k < length these.now.blocks }
+    requires others { k < length others.now.blocks }
+{
+    let (one, other) = (
+        these.records(k).expect(rt, "copies"),
+        others.records(k).expect(rt, "copies"),
+    );
+    assert_eq!(rt; one.numbers, other.numbers);
+    assert_eq!(rt; one.points, other.points);
+    assert_eq!(rt; one.withheld, other.withheld);
+}
+
+/// Blocks are the same, block by block.
+fn same_blocks(rt: &impl Abort, these: &Blocks, others: &Blocks) {
+    assert_eq!(rt; these.count(), others.count());
+    for k in 0..these.count() {
+        assert_eq!(rt; these.block(k), others.block(k));
+    }
+}
+
+/// Blocks by cells have the same records, block by block.
+fn same_copies(rt: &impl Abort, these: &Blocks, others: &Blocks) {
+    assert_eq!(rt; these.count(), others.count());
+    for k in 0..these.count() {
+        same_records(rt, these, others, k);
+    }
+}
+
+/// So many workers make the blocks by cells that one makes.
+fn same_by<R: Abort + Threads + Sync>(
+    rt: &R,
+    alloc: Global,
+    survey: &Survey,
+    alone: &Blocks,
+    workers: u32,
+) -> Result<(), OutOfMemory>
+    requires workers { (1 ≤ workers) × (workers ≤ 64) }
+{
+    let shared = build(alloc, rt, workers, survey)?;
+    same_blocks(rt, &shared, alone);
+    same_copies(rt, &shared, alone);
+    Ok(())
+}
+
+/// Each number of workers makes the blocks by cells that one makes.
+fn same_by_all<R: Abort + Threads + Sync>(
+    rt: &R,
+    alloc: Global,
+    survey: &Survey,
+) -> Result<(), OutOfMemory> {
+    let alone = build(alloc, rt, 1, survey)?;
+    for workers in [2, 3, 64] {
+        same_by(rt, alloc, survey, &alone, workers)?;
+    }
+    Ok(())
+}
+
+#[test]
+fn blocks_are_the_same_by_each_number_of_workers(rt: HostRuntime) -> Result<(), Fail> {
+    let survey = spread(rt.alloc())?;
+    same_by_all(&rt, rt.alloc(), &survey)?;
+    Ok(())
+}
+
+#[test]
+fn records_at_one_point_are_the_same_by_each_number_of_workers(
+    rt: HostRuntime,
+) -> Result<(), Fail> {
+    let survey = survey(rt.alloc(), 5000, &[])?;
+    same_by_all(&rt, rt.alloc(), &survey)?;
     Ok(())
 }

@@ -35,12 +35,12 @@ fn survey(alloc: Global) -> Result<Survey, Fail> {
 }
 
 /// A world over that survey, drawn by one worker, and the root pass.
-fn world(alloc: Global) -> Result<(World, Pass), Fail>
+fn world<R: Threads + Sync>(rt: &R, alloc: Global) -> Result<(World, Pass), Fail>
     ensures world { IfOk result (λ r. IsWorld r.0) }
     ensures pass { IfOk result (λ r. r.1 ≡ record { gate = r.0.shared.name; who = 0; seen = []; mine = []; turn = None; root = true; out = 0; given = 0; kept = [] }) }
 {
     let survey = survey(alloc)?;
-    let blocks = Arc::new(alloc, build(alloc, &survey)?)?;
+    let blocks = Arc::new(alloc, build(alloc, rt, 1, &survey)?)?;
     let survey = Arc::new(alloc, survey)?;
     let (shared, root) = Shared::over(alloc, Arc::try_clone(&survey)?, Arc::try_clone(&blocks)?)?;
     let scene = Scene {
@@ -161,7 +161,7 @@ const THEN: Turn<'static> = Turn {
 
 #[test]
 fn two_sessions_in_turns_make_one_history(rt: HostRuntime) -> Result<(), Fail> {
-    let (world, mut root) = world(rt.alloc())?;
+    let (world, mut root) = world(&rt, rt.alloc())?;
     let mut one = new_pass(&world, &mut root);
     let mut two = new_pass(&world, &mut root);
     take_turns(&rt, rt.alloc(), &world, &mut one, &mut two)?;
@@ -204,7 +204,7 @@ const SAVE: Turn<'static> = Turn {
 
 #[test]
 fn a_save_that_fails_gives_its_pin_back(rt: HostRuntime) -> Result<(), Fail> {
-    let (world, mut root) = world(rt.alloc())?;
+    let (world, mut root) = world(&rt, rt.alloc())?;
     let mut one = new_pass(&world, &mut root);
     serves(&rt, rt.alloc(), &world, &mut one, &SAVE)?;
     world.shared.join(&mut root, one);

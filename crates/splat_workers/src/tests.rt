@@ -211,7 +211,7 @@ fn drawn_by_two<R: Abort + Threads + Sync>(
     hold: &Hold,
 ) -> Result<Words, OutOfMemory> {
     let classes = base(alloc, survey)?;
-    let blocks = build(alloc, survey)?;
+    let blocks = build(alloc, rt, 1, survey)?;
     let kept = kept(alloc, &view.camera, &blocks)?;
     assert!(rt; kept.count() == 3);
     let pixels = view.camera.width() * view.camera.height();
@@ -317,7 +317,7 @@ fn compare<R: Abort + Threads + Sync>(
     let mut wanted = vec![in alloc; u64::MAX; 256]?;
     lower_all(wanted.as_mut_slice(), chosen);
     let classes = base(alloc, survey)?;
-    let by_cells = build(alloc, survey)?;
+    let by_cells = build(alloc, rt, 1, survey)?;
     draws(rt, alloc, survey, &classes, &by_cells, view, &wanted)?;
     let by_number = build_by_number(alloc, survey)?;
     draws(rt, alloc, survey, &classes, &by_number, view, &wanted)

@@ -54,15 +54,16 @@ pub(crate) fn serve<R: Threads + Wait + Sync, D: Desk, B: Beside>(
         Ok(survey) => survey,
         Err(status) => return Ended::only(alloc, status),
     };
-    match make_room(alloc, survey, workers(Row::Serve, words), count) {
+    match make_room(alloc, rt, survey, workers(Row::Serve, words), count) {
         Ok(room) => serve_in(alloc, rt, words, count, room, desk, beside),
         Err(OutOfMemory) => Ended::only(alloc, Status::Memory),
     }
 }
 
 /// The world of the sessions, over a survey, and the room for them.
-fn make_room<I: Source, O: Sink>(
+fn make_room<R: Threads + Sync, I: Source, O: Sink>(
     alloc: Global,
+    rt: &R,
     survey: Survey,
     workers: u32,
     count: u32,
@@ -75,7 +76,7 @@ fn make_room<I: Source, O: Sink>(
     ensures room { IfOk result (λ room. count ≤ vec_capacity room.seats) }
     ensures outcomes { IfOk result (λ room. IsRoomFor count room.outcomes) }
 {
-    let blocks = Arc::new(alloc, build(alloc, &survey)?)?;
+    let blocks = Arc::new(alloc, build(alloc, rt, workers, &survey)?)?;
     let survey = Arc::new(alloc, survey)?;
     let (shared, root) = Shared::over(alloc, Arc::try_clone(&survey)?, Arc::try_clone(&blocks)?)?;
     let outcomes = Outcomes::with_room(alloc, count)?;

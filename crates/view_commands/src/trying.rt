@@ -106,7 +106,7 @@ fn summary_of<R: Threads + Sync, B: Beside>(
 {
     let survey = made_survey(alloc, start, records)?;
     let bytes = survey.bytes().len();
-    let scene = scene_of(alloc, survey, workers)?;
+    let scene = scene_of(alloc, rt, survey, workers)?;
     let replies = replies_over(alloc, rt, &scene, beside)?;
     summary_text(alloc, records, bytes, replies.as_slice())
 }
@@ -129,12 +129,17 @@ fn made_survey(alloc: Global, start: u64, records: u32) -> Result<Survey, OutOfM
 }
 
 /// A survey as pictures of it are drawn.
-fn scene_of(alloc: Global, survey: Survey, workers: u32) -> Result<Scene, OutOfMemory>
+fn scene_of<R: Threads + Sync>(
+    alloc: Global,
+    rt: &R,
+    survey: Survey,
+    workers: u32,
+) -> Result<Scene, OutOfMemory>
     requires { (1 ≤ workers) × (workers ≤ 64) }
     ensures scene { IfOk result IsScene }
     ensures survey { IfOk result (λ scene. arc_value scene.survey ≡ survey) }
 {
-    let blocks = Arc::new(alloc, build(alloc, &survey)?)?;
+    let blocks = Arc::new(alloc, build(alloc, rt, workers, &survey)?)?;
     Ok(Scene {
         survey: Arc::new(alloc, survey)?,
         blocks,

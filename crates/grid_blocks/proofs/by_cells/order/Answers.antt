@@ -10,16 +10,16 @@ all_records : (b : List ℕ) (n : ℕ) (area grid : Box3) → n ≡ record_count
 all_records b n area grid all same least =
     subst (λ (n : ℕ). IsLeastBox (map (point_of b) (range_with_len 0 n)) grid) all (subst (λ (a : Box3). IsLeastBox (map (point_of b) (range_with_len 0 n)) a) (sym same) least)
 
-pub words_of-requires : goal.words_of-requires
-words_of-requires c = all_records c.args.survey.now c.records.result c.box_of_records.result c.of-grid.result.area c.records.ensures.count c.of-grid.ensures c.box_of_records.ensures
+pub words_of-requires-clause-around : goal.words_of-requires-clause-around
+words_of-requires-clause-around g c = λ _ _. all_records c.args.survey.now c.records.result c.box_side_by_side.result c.of-grid.result.area c.records.ensures.count c.of-grid.ensures c.box_side_by_side.ensures
 
 pub returns-clause-order : goal.returns-clause-order
-returns-clause-order c =
+returns-clause-order g c =
     order_sorted c.args.survey.now _ _ c.of-grid.result.area c.of-grid.result.exponent
-    (all_records c.args.survey.now c.records.result c.box_of_records.result c.of-grid.result.area c.records.ensures.count c.of-grid.ensures c.box_of_records.ensures) c.of-grid.result.is_exponent c.in_ok-words.ensures c.sort_unstable.ensures.permutation c.sort_unstable.ensures.sorted
+    (all_records c.args.survey.now c.records.result c.box_side_by_side.result c.of-grid.result.area c.records.ensures.count c.of-grid.ensures c.box_side_by_side.ensures) c.of-grid.result.is_exponent c.in_ok-words.ensures c.sort.ensures.permutation c.sort.ensures.sorted
 
 pub returns-clause-size : goal.returns-clause-size
-returns-clause-size c = length-order c.args.survey.now _ (returns-clause-order c)
+returns-clause-size g c = length-order c.args.survey.now _ (returns-clause-order g c)
 
 pub returns-clause-numbers : goal.returns-clause-numbers
-returns-clause-numbers c = numbers_below c.args.survey.now _ (omega (arith, c.records.ensures)) (returns-clause-order c)
+returns-clause-numbers g c = numbers_below c.args.survey.now _ (omega (arith, c.records.ensures)) (returns-clause-order g c)
