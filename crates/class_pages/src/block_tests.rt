@@ -11,6 +11,7 @@ use std::alloc::Global;
 use std::process::Abort;
 use std::sync::Arc;
 use std::test::Fail;
+use std::thread::Threads;
 
 const STEP: u32 = 7919;
 
@@ -69,13 +70,13 @@ fn edit_often(
 }
 
 /// Whether a version from many edits after these classes has those of a plain list.
-fn edits_are_plain(
-    rt: &impl Abort,
+fn edits_are_plain<R: Abort + Threads + Sync>(
+    rt: &R,
     alloc: Global,
     survey: &Survey,
     read: &Classes,
 ) -> Result<bool, Fail> {
-    let blocks = build(alloc, survey)?;
+    let blocks = build(alloc, rt, 2, survey)?;
     let none = edit_of(b"edit 0 0 0 0 0 0 9 6")?;
     let mut plain = vec![in alloc; 2u8; 100000]?;
     let mut newest = edited(rt, alloc, survey, &blocks, read, &none, 0)?;
@@ -111,9 +112,13 @@ fn all_change(
 }
 
 /// Whether all of so many records change, by blocks of either kind.
-fn all_change_twice(rt: &impl Abort, alloc: Global, records: u32) -> Result<bool, Fail> {
+fn all_change_twice<R: Abort + Threads + Sync>(
+    rt: &R,
+    alloc: Global,
+    records: u32,
+) -> Result<bool, Fail> {
     let survey = survey(alloc, records, STEP)?;
-    let by_cells = all_change(rt, alloc, &survey, &build(alloc, &survey)?)?;
+    let by_cells = all_change(rt, alloc, &survey, &build(alloc, rt, 2, &survey)?)?;
     let by_number = all_change(rt, alloc, &survey, &build_by_number(alloc, &survey)?)?;
     Ok(by_cells & by_number)
 }
@@ -138,8 +143,12 @@ fn shared(rt: &impl Abort, one: &Classes, two: &Classes) -> [bool; 2] {
 
 /// Which pages of 8192 records stay shared by an edit of record 0 alone, and by one that gives every
 /// record the class that it has.
-fn shared_by_two(rt: &impl Abort, alloc: Global, survey: &Survey) -> Result<[[bool; 2]; 2], Fail> {
-    let blocks = build(alloc, survey)?;
+fn shared_by_two<R: Abort + Threads + Sync>(
+    rt: &R,
+    alloc: Global,
+    survey: &Survey,
+) -> Result<[[bool; 2]; 2], Fail> {
+    let blocks = build(alloc, rt, 2, survey)?;
     let read = base(alloc, survey)?;
     let first = edit_of(b"edit 0 0 0 0 0 0 2 6")?;
     let none = edit_of(b"edit 0 0 0 9000 0 0 2 2")?;
