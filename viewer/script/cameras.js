@@ -11,7 +11,7 @@ let camera = null, off = new Set(), counts = [], newest = 0, edits = [];
 // The picture that is shown, the number of the last one that was asked for, and what was asked by number.
 let picture = null, asked = 0, asks = new Map(), divide = 2, room = 1;
 let changed = false, moving = false, resting = 0, lastFrame = 0;
-let rectangle = null, selecting = false, dragging = null, pointer = null, tasks = 0;
+let rectangle = null, selecting = false, dragging = null, pointer = null;
 const held = new Set();
 
 const rad = (degrees) => degrees * Math.PI / 180;
