@@ -1,6 +1,7 @@
 """One tab of a browser: what it asked for and is told, and the thread that asks its session."""
 
 import collections
+import contextlib
 import json
 import secrets
 import socket
@@ -93,22 +94,28 @@ class Tab:
             while self.do(*self.next()):
                 pass
         except OSError:
-            # This wakes the thread that reads.
-            self.connection.shutdown(socket.SHUT_RDWR)
+            self.leave()
         except Broken as fault:
             self.office.broken(fault)
             self.say_rest()
         finally:
             self.office.leave(self)
+            if not self.gone:
+                self.close(1001)
+            # This wakes the thread that reads.
+            with contextlib.suppress(OSError):
+                self.connection.shutdown(socket.SHUT_RD)
 
     def say_rest(self):
         """Says what is left to be said, at the end."""
-        try:
+        with contextlib.suppress(OSError):
             while self.outbox:
                 self.send(self.outbox.popleft())
-            self.connection.sendall(web_socket.closing(1001))
-        except OSError:
-            pass
+
+    def close(self, code):
+        """Sends the frame that closes; nothing is sent after it."""
+        with contextlib.suppress(OSError):
+            self.connection.sendall(web_socket.closing(code))
 
     def do(self, kind, what):
         """Does one thing, and says whether more may come."""

@@ -4,7 +4,6 @@ Each request has to have the key of this run and a Host header that names this a
 machine's files: what can be had are the page, its script and its style sheet, a tab's line, and a saved file.
 """
 
-import contextlib
 import hmac
 import http.server
 import os
@@ -161,10 +160,11 @@ class Handler(http.server.BaseHTTPRequestHandler):
             code = closed.code
         except (OSError, ValueError):
             pass
+        was_there = worker.is_alive()
         tab.leave()
         worker.join()
-        with contextlib.suppress(OSError):
-            self.connection.sendall(web_socket.closing(code))
+        if was_there:
+            tab.close(code)
 
     def save(self, name):
         """Sends the file of the newest version, byte for byte as it comes from the session."""
