@@ -19,8 +19,8 @@ class Answered:
     """The lines of the edits that were answered, on disk while the program has no journal yet."""
 
     def __init__(self, journal):
-        self.name = f"{journal}.answered"
-        self.file = open(self.name, "xb")
+        self.file = open(f"{journal}.answered", "xb")
+        self.name = os.path.abspath(self.file.name)
         self.early = {}
         self.lines = []
 

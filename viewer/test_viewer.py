@@ -344,7 +344,7 @@ class Ends(Case):
     def test_a_journal_that_is_there_is_not_overwritten(self):
         with open(self.path("kept"), "wb") as file:
             file.write(b"edit 0 0 0 9 9 9 all 1\n")
-        told = f"viewer/start: {self.path('kept')} is there, and is not overwritten: give another name by --journal\n"
+        told = "viewer/start: kept is there, and is not overwritten: give another name by --journal\n"
         self.assertEqual(self.start(self.survey, "--journal", "kept"), (1, "", told))
         self.assertEqual(self.read("kept"), b"edit 0 0 0 9 9 9 all 1\n")
         os.rename(self.path("kept"), self.path("new.answered"))

@@ -51,12 +51,20 @@ function place(x, y, height) {
 
 // ---- cameras
 
+// How far it is from one corner of the survey to the opposite one.
+const size = () => Math.hypot(...survey.low.map((low, k) => survey.high[k] - low)) || 1;
+
+// The camera stays about the survey, since a place far away has no number in the file.
+function stay() {
+  camera.at = camera.at.map((part, k) => Math.min(Math.max(part, survey.low[k] - size()), survey.high[k] + size()));
+}
+
 function whole() {
   const c = camera, at = middle();
   const corners = [0, 1, 2, 3, 4, 5, 6, 7].map((k) => survey.low.map((low, axis) => (k >> axis & 1 ? survey.high[axis] : low)));
   const [right, down] = axes(c);
   const spread = (axis) => { const all = corners.map((p) => dot(p, axis)); return Math.max(...all) - Math.min(...all); };
-  c.pixel = Math.max(spread(right) / canvas.width, spread(down) / canvas.height, survey.scale[0] / 10) * 1.02;
+  c.pixel = Math.max(spread(right) / canvas.width, spread(down) / canvas.height, Math.abs(survey.scale[0]) / 10) * 1.02;
   c.at = at;
 }
 
@@ -85,7 +93,7 @@ function fly() {
 function land() {
   const height = middle()[2], at = place(canvas.width / 2, canvas.height / 2, height) || [camera.at[0], camera.at[1], height];
   const far = Math.hypot(...at.map((part, k) => part - camera.at[k]));
-  camera.pixel = Math.max(far / focal(), survey.scale[0] / 10) || 1;
+  camera.pixel = Math.max(far / focal(), Math.abs(survey.scale[0]) / 10);
   camera.form = "ortho";
   camera.down = Math.min(Math.max(camera.down, 0), 90);
   camera.at = at;
@@ -109,7 +117,7 @@ function zoom(x, y, factor) {
     camera.at = along(camera.at, to, (1 - factor) * reach());
   } else {
     const before = place(x, y);
-    camera.pixel = Math.min(Math.max(camera.pixel * factor, survey.scale[0] / 100), 1e6);
+    camera.pixel = Math.min(Math.max(camera.pixel * factor, Math.abs(survey.scale[0]) / 100), size() / 16);
     const after = place(x, y);
     camera.at = camera.at.map((part, k) => part + before[k] - after[k]);
   }

@@ -17,19 +17,21 @@ const SAYS = {
       $("to").replaceChildren(...said.classes.slice(0, said.greatest + 1).map(([name], kind) => new Option(`${kind} ${name}`.trim(), kind)));
       camera = {form: "ortho", at: middle(), pixel: 1, down: 90, towards: 0, angle: 60};
       resize();
-      whole();
+      if (!kept()) whole();
     }
+    $("journal").textContent = `The journal of the edits will be ${said.journal}`;
     showLegend();
     showEdits();
   },
   seat(said) {
     [seat, tab] = [said.seat, said.tab];
     $("ended").hidden = true;
-    document.body.dataset.seat = seat;
+    sit();
     request(1);
   },
   wait(said) {
     seat = null;
+    sit();
     notice("All seats are taken", `${said.seats} tabs have a seat. This one is number ${said.place} of those that wait, and begins when a seat is free.`, "");
     showState();
   },
@@ -54,7 +56,8 @@ const SAYS = {
   wrong(said) {
     if (said.n === "line" || said.n === "edit") tell(said.n === "line" ? "told" : "said", said.text, true);
     else wrong(said.text);
-    if (typeof said.n === "number") asks.delete(said.n);
+    for (const n of asks.keys()) if (n <= said.n) asks.delete(n);
+    showState();
   },
   end(said) {
     ended = said;
@@ -63,10 +66,15 @@ const SAYS = {
   },
 };
 
+// What needs a session waits for a seat.
+function sit() {
+  for (const id of ["edit", "save", "line"]) $(id).disabled = !seat;
+}
+
 function greyWithheld() {
   const none = !survey.withheld;
   $("withheld").disabled = none;
-  $("reasons").textContent = [$("reasons").dataset.rgb, none ? "withheld: no record is" : ""].filter(Boolean).join("; ");
+  $("reasons").textContent = [$("reasons").dataset.rgb, none ? "withheld records: the survey has none" : ""].filter(Boolean).join("; ");
 }
 
 function notice(title, text, journal) {
@@ -86,6 +94,7 @@ function connect() {
   };
   line.onclose = () => {
     seat = null;
+    sit();
     if (ended) return;
     notice("The viewer does not answer", "It is tried again every two seconds.", survey ? `The journal of the run is in ${survey.journal}, once it has ended.` : "");
     setTimeout(connect, 2000);

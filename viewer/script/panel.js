@@ -12,7 +12,7 @@ function showBar() {
 }
 
 function showWhere() {
-  if (!pointer || !camera || !survey) return;
+  if (!pointer || !camera) return;
   let text = "";
   const at = camera.form === "ortho" && place(...pointer);
   if (at && isAbove()) text = `E ${fixed(at[0])}  N ${fixed(at[1])}`;
@@ -23,6 +23,7 @@ function showWhere() {
     text = on ? `E ${fixed(on[0])}  N ${fixed(on[1])}  at height ${fixed(height)}` : "above the horizon";
   }
   $("where").textContent = text;
+  $("where").hidden = !text;
 }
 
 function showWords() {

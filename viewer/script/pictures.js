@@ -24,6 +24,7 @@ function request(by) {
 }
 
 function moved() {
+  stay();
   changed = moving = true;
   clearTimeout(resting);
   resting = setTimeout(() => { moving = false; if (seat) request(1); }, REST);
@@ -58,9 +59,26 @@ function arrived(data) {
   const took = performance.now() - from.since;
   if (head.divide > 1) divide = took > SLOW ? 4 : took < FAST ? 2 : divide;
   picture.took = Math.round(took);
-  document.body.dataset.shown = `${head.n} ${head.version} ${head.divide} ${picture.took}`;
+  keep();
   showWords();
   showNewer();
+}
+
+// A tab that is loaded again goes on where it was.
+function keep() {
+  sessionStorage.setItem("kept", JSON.stringify({survey: survey.survey, camera, off: [...off]}));
+}
+
+function kept() {
+  try {
+    const last = JSON.parse(sessionStorage.getItem("kept"));
+    if (last.survey !== survey.survey) return false;
+    camera = last.camera;
+    off = new Set(last.off);
+    return true;
+  } catch (_) {
+    return false;
+  }
 }
 
 // Pixels that show no record stay clear, so that the background is seen.
