@@ -2,6 +2,7 @@
 
 import contextlib
 import os
+import socket
 import threading
 import time
 
@@ -64,7 +65,7 @@ class Office:
         self.free = list(enumerate(sessions[:seats], 1))
         self.seats, self.own = seats, sessions[-1]
         self.spares = sessions[seats:-1]
-        self.tabs, self.waiting = [], []
+        self.tabs, self.waiting, self.saves = [], [], set()
         self.edits, self.newest = {}, 0
         self.counts = {kind: [count, count] for kind, count in survey.counts.items()}
         self.answered = answered
@@ -148,16 +149,31 @@ class Office:
         return sum(session.room for session in sessions) / (MOST_INPUT * len(sessions))
 
     @contextlib.contextmanager
-    def session_to_save(self):
+    def session_to_save(self, connection):
         """A session that nobody else uses meanwhile where there is one, so that a long file holds nobody up."""
         with self.lock:
             session = self.spares.pop(0) if self.spares else None
+            self.saves.add(connection)
         try:
             yield session or self.own
         finally:
-            if session:
-                with self.lock:
+            with self.lock:
+                self.saves.remove(connection)
+                if session:
                     self.spares.append(session)
+
+    def cut_saves(self, seconds):
+        """Cuts the downloads that are still under way after so many seconds: the end waits for them."""
+
+        def cut():
+            with self.lock:
+                for connection in self.saves:
+                    with contextlib.suppress(OSError):
+                        connection.shutdown(socket.SHUT_RDWR)
+
+        timer = threading.Timer(seconds, cut)
+        timer.daemon = True
+        timer.start()
 
     def edited(self, tab, version, count, made):
         """Notes an edit that was answered, and tells all tabs of it."""

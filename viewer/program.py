@@ -126,8 +126,10 @@ class Program:
         """Hands on what the program says."""
         for line in self.process.stderr:
             self.told = line.strip() or self.told
-            sys.stderr.write(line.decode("utf-8", "replace"))
-            sys.stderr.flush()
+            # The terminal may be gone.
+            with contextlib.suppress(OSError):
+                sys.stderr.write(line.decode("utf-8", "replace"))
+                sys.stderr.flush()
 
     def how_it_ended(self):
         """Waits for the end and says how it was, in words."""

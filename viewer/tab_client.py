@@ -19,10 +19,13 @@ LONGEST = 60
 class Viewer:
     """A running viewer, its address, its key, and its journal."""
 
-    def __init__(self, survey, folder, *words):
+    def __init__(self, survey, folder, *words, browser=None):
         self.journal = os.path.join(folder, "journal.txt")
-        start = [sys.executable, os.path.join(HERE, "start"), survey, "--no-browser", "--journal", self.journal, *words]
-        self.process = subprocess.Popen(start, cwd=folder, stdout=subprocess.PIPE, stderr=subprocess.PIPE)
+        start = [sys.executable, os.path.join(HERE, "start"), survey, "--journal", self.journal, *words]
+        start += [] if browser else ["--no-browser"]
+        # Python's webbrowser starts the browser that BROWSER names.
+        screen = {**os.environ, "DISPLAY": ":0", "BROWSER": browser or ""}
+        self.process = subprocess.Popen(start, cwd=folder, env=screen, stdout=subprocess.PIPE, stderr=subprocess.PIPE)
         self.address = self.process.stdout.readline().decode().strip()
         parts = urllib.parse.urlsplit(self.address)
         self.port, self.key = parts.port, dict(urllib.parse.parse_qsl(parts.query)).get("key")

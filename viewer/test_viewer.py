@@ -4,7 +4,10 @@
     python3 viewer/test_viewer.py
 """
 
+import datetime
 import http.client
+import importlib.machinery
+import importlib.util
 import os
 import signal
 import subprocess
@@ -76,8 +79,8 @@ class Case(unittest.TestCase):
         with open(self.path(name), "rb") as file:
             return file.read()
 
-    def viewer(self, *words):
-        viewer = Viewer(self.survey, self.folder, *words)
+    def viewer(self, *words, **more):
+        viewer = Viewer(self.survey, self.folder, *words, **more)
         self.addCleanup(viewer.end, signal.SIGKILL)
         self.assertTrue(viewer.port, viewer.address)
         return viewer
@@ -290,6 +293,22 @@ class Doors(Case):
         self.addCleanup(client.close)
         self.assertEqual(client.answer, "HTTP/1.1 403 Forbidden")
 
+    def test_the_browser_gets_an_address_that_works_once(self):
+        name = self.path("browser")
+        with open(name, "w", encoding="ascii") as file:
+            file.write(f'#!/bin/sh\nprintf "%s" "$1" >{name}.part; mv {name}.part {name}.told\n')
+        os.chmod(name, 0o755)
+        viewer = self.viewer(browser=name)
+        until = time.monotonic() + LONGEST
+        while not os.path.exists(f"{name}.told") and time.monotonic() < until:
+            time.sleep(0.01)
+        address = self.read("browser.told").decode()
+        self.assertNotIn(viewer.key, address)
+        path = address.partition(str(viewer.port))[2]
+        status, _, headers = self.get(viewer, path)
+        self.assertEqual((status, headers["Location"]), (303, f"/?key={viewer.key}"))
+        self.assertEqual(self.get(viewer, path)[0], 403)
+
     def test_it_listens_on_the_loopback_address_alone(self):
         viewer = self.viewer()
         with open("/proc/net/tcp", encoding="ascii") as file:
@@ -351,6 +370,18 @@ class Ends(Case):
         self.assertEqual(self.start(self.survey, "--journal", "new")[0], 1)
         self.assertEqual(self.read("new.answered"), b"edit 0 0 0 9 9 9 all 1\n")
         self.assertFalse(os.path.exists(self.path("new")))
+
+    def test_a_journal_without_a_name_has_that_of_the_day(self):
+        loader = importlib.machinery.SourceFileLoader("start", os.path.join(HERE, "start"))
+        start = importlib.util.module_from_spec(importlib.util.spec_from_loader("start", loader))
+        loader.exec_module(start)
+        day = datetime.date(2026, 5, 4)
+        name = lambda: os.path.basename(start.free_name(day, self.folder))
+        self.assertEqual(name(), "edits-2026-05-04.txt")
+        for taken, free in (("edits-2026-05-04.txt", "edits-2026-05-04-2.txt"), ("edits-2026-05-04-2.txt.answered", "edits-2026-05-04-3.txt")):
+            with open(self.path(taken), "wb"):
+                pass
+            self.assertEqual(name(), free)
 
     def test_what_is_no_survey_is_told_by_the_program(self):
         with open(self.path("text"), "wb") as file:

@@ -171,9 +171,8 @@ class Handler(http.server.BaseHTTPRequestHandler):
         office = self.server.office
         if not office.tab_of(name):
             return self.refuse(403, "only a tab with a seat can save")
-        self.begun = False
         try:
-            with office.session_to_save() as session:
+            with office.session_to_save(self.connection) as session:
                 session.ask_pieces("save", self.begin_file, self.give_piece)
         except Broken as fault:
             self.close_connection = True
