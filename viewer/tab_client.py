@@ -52,6 +52,7 @@ class Client:
 
     def __init__(self, viewer, key=None):
         self.socket = socket.create_connection(("127.0.0.1", viewer.port), LONGEST)
+        self.socket.setsockopt(socket.IPPROTO_TCP, socket.TCP_NODELAY, 1)
         self.stream = self.socket.makefile("rb")
         self.socket.sendall(
             f"GET /tab?key={key or viewer.key} HTTP/1.1\r\nHost: 127.0.0.1:{viewer.port}\r\nUpgrade: websocket\r\n"

@@ -80,6 +80,8 @@ class Handler(http.server.BaseHTTPRequestHandler):
     protocol_version = "HTTP/1.1"
     server_version, sys_version = "hidrevca-viewer", ""
     timeout = STUCK
+    # A small piece goes at once: else it may wait for the other side's word that the one before came.
+    disable_nagle_algorithm = True
 
     def log_message(self, *_):
         """Nothing is logged: a line would have the key in it."""
