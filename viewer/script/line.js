@@ -8,11 +8,9 @@ const SAYS = {
     document.title = `${said.survey} - Hidrevca`;
     $("name").textContent = said.survey;
     $("about").textContent = `${said.records.toLocaleString("en")} records, format ${said.format}; coordinate system: ${said.system}`;
-    const reasons = [];
     for (const option of $("colour").options) option.disabled = option.value.startsWith("rgb") && !said.rgb;
-    if (!said.rgb) reasons.push(`RGB: point data record format ${said.format} has none`);
+    $("reasons").dataset.rgb = said.rgb ? "" : `RGB: point data record format ${said.format} has none`;
     greyWithheld();
-    $("reasons").dataset.rgb = reasons.join("; ");
     if (first) {
       $("to").replaceChildren(...said.classes.slice(0, said.greatest + 1).map(([name], kind) => new Option(`${kind} ${name}`.trim(), kind)));
       camera = {form: "ortho", at: middle(), pixel: 1, down: 90, towards: 0, angle: 60};
