@@ -30,8 +30,8 @@ class Tab:
         self.seat = self.session = None
         self.wake = threading.Condition()
         self.outbox, self.tasks = collections.deque(), collections.deque()
-        # Of the pictures that were asked for only the last is drawn, and none while one is on its way.
-        self.wanted, self.is_ready = None, True
+        # Of the pictures that were asked for only the last is drawn, and none while more than one is on its way.
+        self.wanted, self.on_way = None, 0
         self.gone = False
 
     def tell(self, message):
@@ -65,7 +65,7 @@ class Tab:
             if asked.get("ask") == "view":
                 self.wanted = asked
             elif asked.get("ask") == "ready":
-                self.is_ready = True
+                self.on_way = max(0, self.on_way - 1)
             elif len(self.tasks) < MOST_TASKS:
                 self.tasks.append(asked)
             self.wake.notify()
@@ -80,13 +80,13 @@ class Tab:
                 return "tell", self.outbox.popleft()
             if self.session and self.tasks:
                 return "task", self.tasks.popleft()
-            if self.session and self.wanted and self.is_ready:
+            if self.session and self.wanted and self.on_way < 2:
                 wanted, self.wanted = self.wanted, None
                 return "view", wanted
         return "tell", (web_socket.PING, b"")
 
     def has_work(self):
-        return self.gone or self.outbox or self.session and (self.tasks or self.wanted and self.is_ready)
+        return self.gone or self.outbox or self.session and (self.tasks or self.wanted and self.on_way < 2)
 
     def work(self):
         """Does one thing after another until the tab is gone or the run is over."""
@@ -163,7 +163,8 @@ class Tab:
         size = 3 * width * height
         start = 4 + len(text) + size
         self.connection.sendall(web_socket.head(web_socket.BINARY, start) + len(text).to_bytes(4, "little") + text)
-        self.is_ready = False
+        with self.wake:
+            self.on_way += 1
         self.connection.sendall(memoryview(content)[len(content) - size :])
 
     def task(self, asked):

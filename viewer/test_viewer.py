@@ -139,11 +139,11 @@ class Pictures(Case):
         for n in range(1, 201):
             client.say({"ask": "view", "n": n, **VIEW})
         client.say({"ask": "line", "n": "line", "line": "count all show"})
-        # Until the first picture came nothing says `ready`, so one more alone is drawn.
-        first = client.wait_for("picture")["n"]
-        last = first if first == 200 else client.wait_for("picture")["n"]
-        self.assertEqual((first < 200, last), (True, 200))
-        self.assertEqual([said["n"] for said in client.heard if said["say"] == "picture"], [first, 200])
+        # Until `ready` is said, which is behind all that was asked for, two pictures are drawn, and then the last.
+        drawn = []
+        while drawn[-1:] != [200]:
+            drawn.append(client.wait_for("picture")["n"])
+        self.assertTrue(len(drawn) <= 3 and drawn == sorted(drawn), drawn)
 
     def test_what_does_not_fit_is_told_and_costs_the_session_nothing(self):
         client = self.seated(self.viewer())

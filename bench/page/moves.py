@@ -4,9 +4,9 @@
     python3 bench/page/moves.py SURVEY [WORKERS [PICTURE.png]]
 
 A real browser (Debian's chromium-driver and python3-selenium) with a picture of 1920 by 1080 drags a view for
-some seconds, turns it and flies, with an event each 16 ms. For each of them it prints how long it took from an
-event to the paint of the first picture that has it, of the pictures that came while the hand moved, and how long
-the whole picture took once it rested. With a name it keeps a picture of the page.
+some seconds, zooms, turns and flies, with an event each 16 ms, and makes single steps from rest. For each of them
+it prints how long it took from an event to the paint of the first picture that has it, of the pictures that came
+while the hand moved, and how long the whole picture took once it rested. With a name it keeps a picture of the page.
 """
 
 import os
@@ -44,11 +44,13 @@ const timer = setInterval(() => {
     }, 20);
     return;
   }
-  if (!events.has(asked)) events.set(asked, performance.now());
+  const now = performance.now(), before = asked;
   const way = Math.floor(step++ / 40) % 2 ? -1 : 1;
-  if (kind === "drag") pan(way * 9, way * 4);
+  if (kind === "step" && step % 50) return;
+  if (kind === "drag" || kind === "step") pan(way * 9, way * 4);
   else if (kind === "zoom") zoom(canvas.width / 3, canvas.height / 3, way > 0 ? 0.98 : 1 / 0.98);
   else turn(way * 0.5, way * 0.1);
+  if (!events.has(before)) events.set(before, now);
 }, 16);
 """
 
@@ -71,7 +73,7 @@ def main():
         try:
             driver.get(viewer.address)
             driver.execute_script("const s = document.getElementById('stage').style; s.flex = 'none'; s.width = '1920px'; s.height = '1080px'; resize()")
-            for kind, view, by in (("drag", "above", 1), ("zoom", "above", 1), ("drag", "above", 8), ("turn", "oblique", 1), ("turn", "flight", 1)):
+            for kind, view, by in (("step", "above", 1), ("drag", "above", 1), ("zoom", "above", 1), ("drag", "above", 8), ("turn", "oblique", 1), ("turn", "flight", 1)):
                 driver.execute_script("look('whole'); look(arguments[0]); camera.pixel /= arguments[1]; moved()", view, by)
                 times, paints = driver.execute_async_script(MOVES, kind)
                 told(f"{kind}, {view}, {by} times nearer than the whole" if by > 1 else f"{kind}, {view}", times, paints)

@@ -3,14 +3,14 @@
 const key = new URL(document.currentScript.src).searchParams.get("key");
 const $ = (id) => document.getElementById(id);
 const stage = $("stage"), canvas = $("picture"), over = $("over");
-const STEP = 8, REST = 120, FAST = 35, SLOW = 90, THRIFTY = 0.1;
+const STEP = 8, REST = 150, FAST = 35, SLOW = 90, THRIFTY = 0.1;
 
 let line = null, survey = null, seat = null, tab = null, ended = null;
 // The camera in map coordinates, what else a picture shows, and the classes that are left out.
 let camera = null, off = new Set(), counts = [], newest = 0, edits = [];
 // The picture that is shown, the number of the last one that was asked for, and what was asked by number.
 let picture = null, asked = 0, asks = new Map(), divide = 2, room = 1;
-let changed = false, moving = false, resting = 0, lastFrame = 0;
+let changed = false, moving = false, followed = "", resting = 0, lastFrame = 0;
 let rectangle = null, selecting = false, dragging = null, pointer = null;
 const held = new Set();
 

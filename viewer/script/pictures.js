@@ -23,8 +23,10 @@ function request(by) {
   showState();
 }
 
+// The camera moved: a picture is asked for at once, and of many moves in a frame for the first and the last.
 function moved() {
   stay();
+  if (!changed) requestMoving();
   changed = moving = true;
   clearTimeout(resting);
   resting = setTimeout(() => { moving = false; if (seat) request(1); }, REST);
@@ -38,7 +40,14 @@ function frame(now) {
   if (!changed) return;
   changed = false;
   paint();
-  if (seat && moving && room > THRIFTY) request(divide);
+  if (moving) requestMoving();
+}
+
+function requestMoving() {
+  const where = JSON.stringify(camera);
+  if (!seat || room <= THRIFTY || where === followed) return;
+  followed = where;
+  request(divide);
 }
 
 function arrived(data) {
@@ -51,7 +60,10 @@ function arrived(data) {
   head.rgb = new Uint8Array(data, 4 + length);
   // A camera stands on whole numbers: the page takes it as it came to stand.
   head.camera = {...from.camera, at: head.at, pixel: head.pixel || from.camera.pixel};
-  if (head.n === asked) camera = {...head.camera};
+  if (head.n === asked) {
+    camera = {...head.camera};
+    followed = JSON.stringify(camera);
+  }
   picture = head;
   room = head.room;
   convert();
