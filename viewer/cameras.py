@@ -28,8 +28,7 @@ class View(NamedTuple):
 
     words: str
     numbers: list
-    at: list
-    pixel: float
+    stands: dict
 
 
 def number(asked, name, low, high):
@@ -99,19 +98,22 @@ def level_axes(survey, asked, pixel):
 
 
 def ortho(survey, asked):
-    """The numbers of an orthographic camera, the place in its middle and the metres of a pixel."""
+    """The numbers of an orthographic camera, and the place in its middle and the metres of a pixel as they came out."""
     size, centre = size_of(asked), centre_of(survey, asked)
     pixel = exact(float(number(asked, "pixel", 1e-9, 1e9)))
     whole, per_metre, t = level_axes(survey, asked, pixel)
     k = max(1, round(pixel * per_metre))
     if 4 * k > aim.MOST_SCALE:
         raise Wrong("a pixel would be larger than K can say")
-    camera = aim.aimed(survey.low, survey.high, whole, centre, size, k, t)
-    return camera, survey.place(centre), float(k / per_metre)
+    stands = {"at": survey.place(centre), "pixel": float(k / per_metre)}
+    if not aim.line_of_sight(whole)[1]:
+        # An eye that is rounded would be aimed at the middle of the pixel in the middle, and not at its corner.
+        centre = [part + half for part, half in zip(centre, aim.half_pixel(whole, k))]
+    return aim.aimed(survey.low, survey.high, whole, centre, size, k, t), stands
 
 
 def flight(survey, asked):
-    """The numbers of a camera in perspective, and the place of its eye."""
+    """The numbers of a camera in perspective, and the place of its eye and its angle as they came out."""
     size, eye = size_of(asked), centre_of(survey, asked)
     down, towards = math.radians(number(asked, "down", -90, 90)), math.radians(number(asked, "towards", -1e6, 1e6))
     level = math.cos(down)
@@ -120,20 +122,22 @@ def flight(survey, asked):
     right = [math.cos(towards), -math.sin(towards), 0.0]
     weights, _ = aim.weights_of(survey.grid.scale)
     whole, factor = aim.whole_axes((right, aim.cross(ahead, right), ahead), weights, 1, aim.MOST_PART)
-    focal = perspective.focal(size[0], number(asked, "angle", 1, 170)) // 4 * 4
+    # An angle that came out of a K gives that K again.
+    focal = perspective.focal(size[0], number(asked, "angle", 1, 170) - 1e-9) // 4 * 4
     if not focal:
         raise Wrong("so wide an angle of view needs a wider picture")
     t = max(1, round(factor * max(map(abs, weights))))
-    return perspective.aimed(survey.low, survey.high, whole, eye, size, focal, t), survey.place(eye), 0.0
+    stands = {"at": survey.place(eye), "angle": math.degrees(2 * math.atan(size[0] / 2 / focal))}
+    return perspective.aimed(survey.low, survey.high, whole, eye, size, focal, t), stands
 
 
 def view_of(survey, asked):
     """The view that a page asks for."""
     kind = choice(asked, "form", ("ortho", "persp"))
-    camera, at, pixel = (ortho if kind == "ortho" else flight)(survey, asked)
+    camera, stands = (ortho if kind == "ortho" else flight)(survey, asked)
     colour = choice(asked, "colour", COLOURS)
     last = [colour, class_list(asked, "classes"), choice(asked, "withheld", ("show", "hide"))]
-    return View(" ".join([kind, *map(str, camera), *last]), camera, at, pixel)
+    return View(" ".join([kind, *map(str, camera), *last]), camera, stands)
 
 
 def smaller(words, divide):

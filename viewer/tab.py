@@ -153,8 +153,8 @@ class Tab:
             raise Wrong(refusal(words))
         width, height = view.numbers[0] // divide, view.numbers[1] // divide
         head = {
-            "say": "picture", "n": asked.get("n"), "version": int(words[1]), "words": view.words, "at": view.at,
-            "pixel": view.pixel, "divide": divide, "size": [width, height], "room": self.office.room(),
+            "say": "picture", "n": asked.get("n"), "version": int(words[1]), "words": view.words, "stands": view.stands,
+            "divide": divide, "size": [width, height], "room": self.office.room(),
             "drawn": round(1000 * (time.monotonic() - begun)),
         }
         text = json.dumps(head).encode()

@@ -100,12 +100,19 @@ class Page(test_viewer.Case):
         return shown()
 
     def spot(self, point):
-        """Column and row of a point in units, by docs/FORMATS.md and the words that the page shows."""
-        words = self.find("words").get_attribute("value").split()
+        """Column and row of a point in units by the words that the page shows."""
+        return self.on_picture(self.find("words").get_attribute("value"), point)
+
+    @staticmethod
+    def on_picture(text, point):
+        """Column and row of a point in units, by docs/FORMATS.md."""
+        words = text.split()
         w, h, ex, ey, ez, *axes = map(int, words[1:15])
-        k = int(words[15])
-        q = (point[0] - ex, point[1] - ey, point[2] - ez)
-        return [sum(a * b for a, b in zip(axes[at : at + 3], q)) // k + side // 2 for at, side in ((0, w), (3, h))]
+        k, q = int(words[15]), (point[0] - ex, point[1] - ey, point[2] - ez)
+        across, along, ahead = (sum(a * b for a, b in zip(axes[at : at + 3], q)) for at in (0, 3, 6))
+        if words[0] == "persp":
+            return [across * k // ahead + w // 2, along * k // ahead + h // 2]
+        return [across // k + w // 2, along // k + h // 2]
 
     def pixel(self, point):
         """The colour that the page shows where this point falls."""
@@ -237,7 +244,9 @@ class Browser(Page):
         self.driver.switch_to.window(second)
         self.wait(lambda: self.find("newer").is_displayed(), "the newer version")
         self.assertEqual(self.pixel((2450, 2450, 100)), WATER)
-        self.assertIn("Version 1 is there: 400 records changed. This is version 0.", self.find("newer").text)
+        # The rectangle begins on the pixel of 20.00, and ends on that of 29.75, both whole.
+        told = self.find("newer").text
+        self.assertRegex(told, r"Version 1 is there: 400 records changed, in E (19.9|20.0)\d to 29.[78]\d, N (19.9|20.0)\d to 29.[78]\d. This is version 0.")
         self.click("take")
         self.settled(1)
         self.assertEqual((self.pixel((2450, 2450, 100)), self.find("newer").is_displayed()), (BRIDGE, False))
@@ -251,6 +260,51 @@ class Browser(Page):
         wanted = test_viewer.with_class(test_viewer.survey_bytes(), lambda p: 17 if 2000 <= p.x <= 2950 and 2000 <= p.y <= 2950 else None)
         self.wait(lambda: os.path.exists(name) and os.path.getsize(name) == len(wanted), "the file")
         self.assertEqual(self.read("fields-version-1.las"), wanted)
+
+    def test_view_words_lead_back_to_their_view(self):
+        words = lambda: self.find("words").get_attribute("value")
+        for view in ("oblique", "flight", "above", "west"):
+            self.driver.execute_script("look('above'); look('whole'); look(arguments[0])", view)
+            self.settled()
+            self.driver.execute_script("camera.at[0] += 3; camera.at[1] -= 2; camera.pixel *= 0.7; moved()")
+            self.settled()
+            wanted = words()
+            self.driver.execute_script("look('north'); look('whole')")
+            self.settled()
+            self.driver.execute_script("goTo(arguments[0])", wanted)
+            self.settled()
+            found = words()
+            # The eye may slide along its line of sight, and be rounded to another unit.
+            shown = [self.on_picture(text, (2000, 2000, 500)) for text in (wanted, found)]
+            self.assertTrue(all(abs(a - b) <= 1 for a, b in zip(*shown)), (wanted, found))
+            self.assertEqual(wanted.split()[0], found.split()[0])
+        self.driver.execute_script("goTo('ortho 1 2')")
+        self.assertIn("22 words", self.find("wrong").text)
+
+    def test_a_tab_that_is_loaded_again_goes_on_where_it_was(self):
+        self.click("class-5")
+        self.wheel((1000, 3000, 700), -700)
+        before = self.find("words").get_attribute("value")
+        self.driver.refresh()
+        self.settled()
+        self.assertEqual(self.find("words").get_attribute("value"), before)
+        self.assertIn(" class 0-4,6-255 show", before)
+
+    def test_a_tab_without_a_seat_waits_for_one(self):
+        others = [self.seated(self.running) for _ in range(7)]
+        self.driver.switch_to.new_window("tab")
+        self.driver.get(self.running.address)
+        self.wait(lambda: self.find("ended").is_displayed(), "the notice")
+        self.assertIn("8 tabs have a seat. This one is number 1 of those that wait", self.find("ended").text)
+        others[3].close()
+        self.settled()
+        self.assertEqual((self.find("ended").is_displayed(), self.find("state").text[:6]), (False, "seat 5"))
+
+    def test_all_tabs_say_that_the_viewer_ended_and_where_the_journal_is(self):
+        self.running.process.send_signal(signal.SIGTERM)
+        self.wait(lambda: self.find("ended").is_displayed(), "the end")
+        self.assertIn(f"The journal of the edits is in {self.running.journal}", self.find("ended").text)
+        self.assertEqual(self.running.end(by=None)[0], 0)
 
     def test_newer_versions_are_shown_at_once_where_that_is_wanted(self):
         self.click("follow")

@@ -54,9 +54,9 @@ class Case(unittest.TestCase):
         self.addCleanup(folder.cleanup)
         self.folder = folder.name
 
-    def survey(self, scale=0.001, text=INFO):
+    def survey(self, scale=(0.001, 0.001, 0.001), text=INFO):
         data = bytearray(assemble.plain_file(4, 0))
-        struct.pack_into("<6d", data, 131, scale, scale, scale, 500000.0, 5000000.0, 100.0)
+        struct.pack_into("<6d", data, 131, *scale, 500000.0, 5000000.0, 100.0)
         name = os.path.join(self.folder, "survey.las")
         with open(name, "wb") as file:
             file.write(data)
@@ -69,7 +69,7 @@ class Views(Case):
         # greatest Z is 50000 and the least -500, 50500 below it. Rows are cut to a multiple of 8.
         view = cameras.view_of(self.survey(), ABOVE)
         self.assertEqual(view.words, "ortho 1000 800 100000 200000 50000 8 0 0 0 -8 0 0 0 -8 1600 8 0 50500 class all show")
-        self.assertEqual((view.at, view.pixel), ([500100.0, 5000200.0, 125.0], 0.2))
+        self.assertEqual(view.stands, {"at": [500100.0, 5000200.0, 125.0], "pixel": 0.2})
         self.assertEqual(spot(view.words, (100000, 200000, 50000)), (500, 400, 0))
         # 20 m to the east and 10 m to the north are 100 and 50 pixels.
         self.assertEqual(spot(view.words, (120000, 210000, 0)), (600, 350, 50000))
@@ -100,11 +100,37 @@ class Views(Case):
         asked = {**ABOVE, "form": "persp", "down": 0, "towards": 0, "angle": 90}
         view = cameras.view_of(self.survey(), asked)
         self.assertEqual(view.numbers[:5], [1000, 800, 100000, 200000, 25000])
-        self.assertEqual((view.numbers[14], view.at), (500, [500100.0, 5000200.0, 125.0]))
+        self.assertEqual((view.numbers[14], view.stands["at"]), (500, [500100.0, 5000200.0, 125.0]))
         # 100 m ahead, 20 m to the right and 10 m up: 500 * 20 / 100 columns and 500 * 10 / 100 rows.
         self.assertEqual(spot(view.words, (120000, 300000, 35000))[:2], (600, 350))
         half = cameras.smaller(view.words, 2)
         self.assertEqual(spot(half, (120000, 300000, 35000))[:2], (300, 175))
+
+    def test_an_angle_that_came_out_gives_the_same_flight_again(self):
+        asked = {**ABOVE, "form": "persp", "angle": 61.7}
+        for width in (8, 1000, 1928, 4096):
+            view = cameras.view_of(self.survey(), {**asked, "size": [width, 800]})
+            again = cameras.view_of(self.survey(), {**asked, "size": [width, 800], **view.stands})
+            self.assertEqual((again.words, again.numbers[14] % 4), (view.words, 0))
+
+    def test_an_oblique_view_has_its_place_on_the_corner_of_the_pixel_in_the_middle(self):
+        view = cameras.view_of(self.survey(), {**ABOVE, "down": 37, "towards": 25})
+        # So the places a third of a pixel to the right and down, and to the left and up, lie on the pixels there.
+        right, down = ([200 * part / 16384 / 3 for part in view.numbers[at : at + 3]] for at in (5, 8))
+        for sign, pixel in ((1, (500, 400)), (-1, (499, 399))):
+            place = [c + sign * (a + b) for c, a, b in zip((100000, 200000, 25000), right, down)]
+            self.assertEqual(spot(view.words, [round(part) for part in place])[:2], pixel)
+
+    def test_unequal_units_are_weighed(self):
+        # A unit is 0.002 m in X, 0.001 in Y and 0.0005 in Z: 4, 2 and 1 of the greatest common one, and 0.2 m are 400
+        # of them, of which two doublings make K 1600. A step of depth is 16 of 4 * 100000.
+        made = self.survey((0.002, 0.001, 0.0005), "format 0\nrecords 5\nbox 0 0 0 100000 400000 100000\n")
+        view = cameras.view_of(made, ABOVE)
+        self.assertEqual(view.words, "ortho 1000 800 50000 200000 100000 16 0 0 0 -8 0 0 0 -4 1600 16 0 25000 class all show")
+        # 20 m are 10000 units in X, and 10 m 10000 in Y.
+        self.assertEqual(spot(view.words, (60000, 210000, 0))[:2], (600, 350))
+        edit = cameras.edit_line(made, {"words": view.words, "pixels": [500, 400, 500, 400], "from": "all", "to": 1})
+        self.assertEqual(edit, "edit 50000 199801 -2147483648 50099 200000 2147483647 all 1")
 
     def test_an_eye_that_looks_straight_down_keeps_its_turn(self):
         # Turned to the east, right is south and down the picture is west.

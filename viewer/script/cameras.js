@@ -10,7 +10,7 @@ let line = null, survey = null, seat = null, tab = null, ended = null;
 let camera = null, off = new Set(), counts = [], newest = 0, edits = [];
 // The picture that is shown, the number of the last one that was asked for, and what was asked by number.
 let picture = null, asked = 0, asks = new Map(), divide = 2, room = 1;
-let changed = false, moving = false, followed = "", resting = 0, lastFrame = 0;
+let changed = false, moving = false, followed = "", resting = 0, lastFrame = 0, lastAsked = 0;
 let rectangle = null, selecting = false, dragging = null, pointer = null;
 const held = new Set();
 

@@ -50,7 +50,10 @@ function showNewer() {
   $("newer").hidden = !is;
   if (!is) return;
   const last = edits.filter((edit) => edit.version > picture.version), sum = last.reduce((all, edit) => all + edit.count, 0);
-  $("newer-text").textContent = `Version ${newest} is there: ${sum} ${sum === 1 ? "record" : "records"} changed. This is version ${picture.version}.`;
+  const boxes = last.map((edit) => edit.box).filter(Boolean);
+  const reach = (axis) => `${fixed(Math.min(...boxes.map(([low]) => low[axis])))} to ${fixed(Math.max(...boxes.map(([, high]) => high[axis])))}`;
+  const where = boxes.length ? `, in E ${reach(0)}, N ${reach(1)}` : "";
+  $("newer-text").textContent = `Version ${newest} is there: ${sum} ${sum === 1 ? "record" : "records"} changed${where}. This is version ${picture.version}.`;
 }
 
 function showEdits() {

@@ -43,10 +43,15 @@ function frame(now) {
   if (moving) requestMoving();
 }
 
+// The less the sessions can still be asked, the fewer pictures are drawn while the hand moves.
 function requestMoving() {
-  const where = JSON.stringify(camera);
+  const where = JSON.stringify(camera), now = performance.now();
   if (!seat || room <= THRIFTY || where === followed) return;
-  followed = where;
+  if (room < 0.5 && now - lastAsked < 1000 * (0.5 - room)) {
+    changed = true;
+    return;
+  }
+  [followed, lastAsked] = [where, now];
   request(divide);
 }
 
@@ -59,7 +64,7 @@ function arrived(data) {
   if (!from || picture && head.n < picture.n) return;
   head.rgb = new Uint8Array(data, 4 + length);
   // A camera stands on whole numbers: the page takes it as it came to stand.
-  head.camera = {...from.camera, at: head.at, pixel: head.pixel || from.camera.pixel};
+  head.camera = {...from.camera, ...head.stands};
   if (head.n === asked) {
     camera = {...head.camera};
     followed = JSON.stringify(camera);
