@@ -7,6 +7,7 @@ import secrets
 import socket
 import threading
 import time
+import zlib
 
 import cameras
 import session_lines
@@ -152,20 +153,23 @@ class Tab:
         if words[0] == "REFUSED":
             raise Wrong(refusal(words))
         width, height = view.numbers[0] // divide, view.numbers[1] // divide
-        head = {
+        # A PPM ends in its pixels.
+        pixels = memoryview(content)[len(content) - 3 * width * height :]
+        packs = asked.get("pack") is True
+        self.send_picture({
             "say": "picture", "n": asked.get("n"), "version": int(words[1]), "words": view.words, "stands": view.stands,
-            "divide": divide, "size": [width, height], "room": self.office.room(),
+            "divide": divide, "size": [width, height], "packed": packs, "room": self.office.room(),
             "drawn": round(1000 * (time.monotonic() - begun)),
-        }
+        }, zlib.compress(pixels, 1) if packs else pixels)
+
+    def send_picture(self, head, pixels):
+        """Sends a picture in one frame: the length of its head, the head, and the pixels."""
         text = json.dumps(head).encode()
-        # The page wants its pixels at a multiple of four.
-        text += b" " * (-len(text) % 4)
-        size = 3 * width * height
-        start = 4 + len(text) + size
-        self.connection.sendall(web_socket.head(web_socket.BINARY, start) + len(text).to_bytes(4, "little") + text)
+        start = web_socket.head(web_socket.BINARY, 4 + len(text) + len(pixels)) + len(text).to_bytes(4, "little") + text
         with self.wake:
             self.on_way += 1
-        self.connection.sendall(memoryview(content)[len(content) - size :])
+        self.connection.sendall(start)
+        self.connection.sendall(pixels)
 
     def task(self, asked):
         """Makes an edit, or asks a line that was typed."""

@@ -12,6 +12,7 @@ import os
 import shutil
 import signal
 import sys
+import tempfile
 import time
 import unittest
 
@@ -34,6 +35,8 @@ if IS_THERE:
     from selenium.webdriver.support.ui import Select
 
 import test_viewer
+import assemble
+from tab_client import Viewer
 
 LONGEST = 30
 # The usual colours of classes 2, 5, 6, 9 and 17, in maps: brown, dark green, orange, blue and light brown.
@@ -50,18 +53,32 @@ def open_browser():
     return webdriver.Chrome(service=Service(DRIVER), options=options)
 
 
+def setUpModule():
+    """One browser serves all tests."""
+    Page.driver = open_browser()
+    unittest.addModuleCleanup(Page.driver.quit)
+
+
 class Page(test_viewer.Case):
-    """A browser on the page of a viewer over the survey of four fields."""
+    """A tab of the browser on the page of a viewer over the survey of four fields."""
+
+    # A viewer that several tests look at, each in a tab of its own; else each test has one of its own.
+    shared = None
 
     @classmethod
-    def setUpClass(cls):
-        cls.driver = open_browser()
-        cls.addClassCleanup(cls.driver.quit)
+    def share(cls):
+        folder = tempfile.TemporaryDirectory()
+        cls.addClassCleanup(folder.cleanup)
+        survey = os.path.join(folder.name, "fields.las")
+        with open(survey, "wb") as file:
+            file.write(test_viewer.survey_bytes())
+        cls.shared = Viewer(survey, folder.name)
+        cls.addClassCleanup(cls.shared.end)
 
     def setUp(self):
         super().setUp()
         self.driver.execute_cdp_cmd("Browser.setDownloadBehavior", {"behavior": "allow", "downloadPath": self.folder})
-        self.running = self.viewer()
+        self.running = self.shared or self.viewer()
         self.driver.switch_to.new_window("tab")
         self.driver.get(self.running.address)
         self.settled()
@@ -146,7 +163,26 @@ class Page(test_viewer.Case):
         self.driver.execute_script("document.getElementById(arguments[0]).click()", name)
 
 
-class Browser(Page):
+class Without(Page):
+    """The page over five records in a row, one of them withheld, of a format without RGB."""
+
+    def survey_bytes(self):
+        return assemble.plain_file(4, 6)
+
+    def test_what_the_format_lacks_is_greyed_out_with_the_reason(self):
+        options = {option.get_attribute("value"): option.is_enabled() for option in Select(self.find("colour")).options}
+        self.assertEqual(options, {"class": True, "rgb16": False, "rgb8": False, "intensity": True})
+        self.assertEqual(self.find("reasons").text, "RGB: point data record format 6 has none")
+        self.wait(lambda: self.find("withheld").is_enabled(), "the count of withheld records")
+
+
+class Looking(Page):
+    """What a tab sees and asks without an edit."""
+
+    @classmethod
+    def setUpClass(cls):
+        cls.share()
+
     def test_the_survey_is_seen_from_above_at_once_and_nearer_by_the_wheel(self):
         self.assertEqual(self.settled(), 0)
         for point, colour in (((0, 0, 500), GROUND), ((3950, 0, 900), TREE), ((0, 3950, 700), BUILDING), ((3950, 3950, 100), WATER)):
@@ -159,6 +195,12 @@ class Browser(Page):
         # The point under the pointer stays there, but for the rounding of the eye to units.
         self.assertTrue(all(abs(a - b) <= 1 for a, b in zip(self.spot((1000, 3000, 700)), stayed)))
         self.assertEqual(self.pixel((1000, 3000, 700)), BUILDING)
+
+    def test_a_packed_picture_is_shown_as_a_plain_one(self):
+        self.click("pack")
+        self.wheel((1000, 3000, 700), -300)
+        self.assertTrue(self.driver.execute_script("return picture.packed"))
+        self.assertEqual((self.pixel((1000, 3000, 700)), self.pixel((2000, 2000, 100))), (BUILDING, WATER))
 
     def test_the_picture_follows_the_hand(self):
         column, row = self.spot((2000, 2000, 100))
@@ -224,6 +266,50 @@ class Browser(Page):
             self.assertEqual(self.find("words").get_attribute("value").split()[0], kind)
         self.assertEqual(self.find("words").get_attribute("value").split()[14][:1], "-")
 
+    def test_view_words_lead_back_to_their_view(self):
+        words = lambda: self.find("words").get_attribute("value")
+        for view in ("oblique", "flight", "above", "west"):
+            self.driver.execute_script("look('above'); look('whole'); look(arguments[0])", view)
+            self.settled()
+            self.driver.execute_script("camera.at[0] += 3; camera.at[1] -= 2; camera.pixel *= 0.7; moved()")
+            self.settled()
+            wanted = words()
+            self.driver.execute_script("look('north'); look('whole')")
+            self.settled()
+            self.driver.execute_script("goTo(arguments[0])", wanted)
+            self.settled()
+            found = words()
+            # The eye may slide along its line of sight, and be rounded to another unit.
+            shown = [self.on_picture(text, (2000, 2000, 500)) for text in (wanted, found)]
+            self.assertTrue(all(abs(a - b) <= 1 for a, b in zip(*shown)), (wanted, found))
+            self.assertEqual(wanted.split()[0], found.split()[0])
+        self.driver.execute_script("goTo('ortho 1 2')")
+        self.assertIn("22 words", self.find("wrong").text)
+
+    def test_a_tab_that_is_loaded_again_goes_on_where_it_was(self):
+        self.click("class-5")
+        self.wheel((1000, 3000, 700), -700)
+        before = self.find("words").get_attribute("value")
+        self.driver.refresh()
+        self.settled()
+        self.assertEqual(self.find("words").get_attribute("value"), before)
+        self.assertIn(" class 0-4,6-255 show", before)
+
+    def test_a_refused_line_is_told_in_words(self):
+        for line, told in (("count 9 hide", "0 records pass in version 0"), ("count 999 show", "refused: not a line of the grammar")):
+            box = self.find("line")
+            box.clear()
+            box.send_keys(line, Keys.ENTER)
+            self.wait(lambda: self.find("told").text == told, told)
+
+    def test_a_wrong_key_is_refused(self):
+        self.driver.get(self.running.address[:-1])
+        self.assertIn("the key is missing or wrong", self.driver.find_element(By.TAG_NAME, "body").text)
+
+
+class Working(Page):
+    """What changes the survey, the seats or the run."""
+
     def test_an_edit_in_one_tab_is_seen_in_another_and_saved(self):
         first = self.driver.current_window_handle
         self.driver.switch_to.new_window("window")
@@ -261,35 +347,6 @@ class Browser(Page):
         self.wait(lambda: os.path.exists(name) and os.path.getsize(name) == len(wanted), "the file")
         self.assertEqual(self.read("fields-version-1.las"), wanted)
 
-    def test_view_words_lead_back_to_their_view(self):
-        words = lambda: self.find("words").get_attribute("value")
-        for view in ("oblique", "flight", "above", "west"):
-            self.driver.execute_script("look('above'); look('whole'); look(arguments[0])", view)
-            self.settled()
-            self.driver.execute_script("camera.at[0] += 3; camera.at[1] -= 2; camera.pixel *= 0.7; moved()")
-            self.settled()
-            wanted = words()
-            self.driver.execute_script("look('north'); look('whole')")
-            self.settled()
-            self.driver.execute_script("goTo(arguments[0])", wanted)
-            self.settled()
-            found = words()
-            # The eye may slide along its line of sight, and be rounded to another unit.
-            shown = [self.on_picture(text, (2000, 2000, 500)) for text in (wanted, found)]
-            self.assertTrue(all(abs(a - b) <= 1 for a, b in zip(*shown)), (wanted, found))
-            self.assertEqual(wanted.split()[0], found.split()[0])
-        self.driver.execute_script("goTo('ortho 1 2')")
-        self.assertIn("22 words", self.find("wrong").text)
-
-    def test_a_tab_that_is_loaded_again_goes_on_where_it_was(self):
-        self.click("class-5")
-        self.wheel((1000, 3000, 700), -700)
-        before = self.find("words").get_attribute("value")
-        self.driver.refresh()
-        self.settled()
-        self.assertEqual(self.find("words").get_attribute("value"), before)
-        self.assertIn(" class 0-4,6-255 show", before)
-
     def test_a_tab_without_a_seat_waits_for_one(self):
         others = [self.seated(self.running) for _ in range(7)]
         self.driver.switch_to.new_window("tab")
@@ -312,17 +369,6 @@ class Browser(Page):
         other.say({"ask": "line", "n": "line", "line": "edit 0 0 0 4000 4000 1000 2 6"})
         self.settled(1)
         self.assertEqual(self.pixel((0, 0, 500)), BUILDING)
-
-    def test_a_refused_line_is_told_in_words(self):
-        for line, told in (("count 9 hide", "0 records pass in version 0"), ("count 999 show", "refused: not a line of the grammar")):
-            box = self.find("line")
-            box.clear()
-            box.send_keys(line, Keys.ENTER)
-            self.wait(lambda: self.find("told").text == told, told)
-
-    def test_a_wrong_key_is_refused(self):
-        self.driver.get(self.running.address[:-1])
-        self.assertIn("the key is missing or wrong", self.driver.find_element(By.TAG_NAME, "body").text)
 
     def test_all_tabs_say_that_the_program_died_and_where_the_edits_are(self):
         os.kill(self.running.program(), signal.SIGKILL)

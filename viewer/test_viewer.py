@@ -16,6 +16,7 @@ import tempfile
 import time
 import types
 import unittest
+import zlib
 
 HERE = os.path.dirname(os.path.realpath(__file__))
 ROOT = os.path.dirname(HERE)
@@ -70,7 +71,10 @@ class Case(unittest.TestCase):
         self.folder = folder.name
         self.survey = self.path("fields.las")
         with open(self.survey, "wb") as file:
-            file.write(survey_bytes())
+            file.write(self.survey_bytes())
+
+    def survey_bytes(self):
+        return survey_bytes()
 
     def path(self, name):
         return os.path.join(self.folder, name)
@@ -122,6 +126,12 @@ class Pictures(Case):
                 header = f"P6\n{480 // divide} {400 // divide}\n255\n".encode()
                 self.assertEqual(header + picture["rgb"], drawn, (more, divide))
                 self.assertEqual((picture["n"], picture["version"], picture["size"]), (n, 0, [480 // divide, 400 // divide]))
+
+    def test_a_packed_picture_has_the_same_pixels(self):
+        client = self.seated(self.viewer())
+        plain, packed = client.picture(n=1, **VIEW), client.picture(n=2, **VIEW, pack=True)
+        self.assertEqual((plain["packed"], packed["packed"]), (False, True))
+        self.assertEqual(zlib.decompress(packed["rgb"]), plain["rgb"])
 
     def test_three_pixels_by_hand(self):
         # 0.1 m are 10 units, and 128 times that is the first K of 1024 or above; the middle is the unit 2000 2000.

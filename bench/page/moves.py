@@ -23,11 +23,11 @@ from tab_client import Viewer
 # Moves for so many seconds, and tells of each picture its part of the size and its time, and at last the whole one's.
 MOVES = """
 const [kind, done] = arguments, seconds = 4, times = [], begun = performance.now(), paints = [];
-const shows = arrived;
+const shows = show;
 let events = new Map(), step = 0;
-arrived = (data) => {
+show = (head, rgb) => {
   const before = picture;
-  shows(data);
+  shows(head, rgb);
   if (picture === before) return;
   // The first picture that was asked for after an event has it.
   for (const [n, at] of events) if (n < picture.n) { paints.push(performance.now() - at); events.delete(n); }
@@ -39,7 +39,7 @@ const timer = setInterval(() => {
     const wait = setInterval(() => {
       if (moving || !picture || picture.n !== asked || picture.divide !== 1) return;
       clearInterval(wait);
-      arrived = shows;
+      show = shows;
       done([times, paints]);
     }, 20);
     return;

@@ -19,7 +19,7 @@ function ask(message) {
 function request(by) {
   const c = {...camera, at: [...camera.at]};
   asks.set(++asked, {camera: c, since: performance.now(), by});
-  ask({ask: "view", n: asked, ...c, size: [canvas.width, canvas.height], divide: by, ...colouring()});
+  ask({ask: "view", n: asked, ...c, size: [canvas.width, canvas.height], divide: by, pack: $("pack").checked, ...colouring()});
   showState();
 }
 
@@ -58,11 +58,22 @@ function requestMoving() {
 function arrived(data) {
   const length = new DataView(data).getUint32(0, true);
   const head = JSON.parse(new TextDecoder().decode(new Uint8Array(data, 4, length)));
+  const pixels = new Uint8Array(data, 4 + length);
   ask({ask: "ready"});
+  if (head.packed) unpacked(pixels).then((rgb) => show(head, rgb));
+  else show(head, pixels);
+}
+
+async function unpacked(pixels) {
+  const stream = new Blob([pixels]).stream().pipeThrough(new DecompressionStream("deflate"));
+  return new Uint8Array(await new Response(stream).arrayBuffer());
+}
+
+function show(head, rgb) {
   const from = asks.get(head.n);
   for (const n of asks.keys()) if (n <= head.n) asks.delete(n);
   if (!from || picture && head.n < picture.n) return;
-  head.rgb = new Uint8Array(data, 4 + length);
+  head.rgb = rgb;
   // A camera stands on whole numbers: the page takes it as it came to stand.
   head.camera = {...from.camera, ...head.stands};
   if (head.n === asked) {
