@@ -29,28 +29,37 @@ class Answered:
         """Notes an edit; replies to several sessions may come in another order than that of their versions."""
         self.early[version] = line
         while len(self.lines) + 1 in self.early:
-            self.lines.append(self.early.pop(len(self.lines) + 1))
-            self.file.write(self.lines[-1] + b"\n")
+            self.write(self.early.pop(len(self.lines) + 1))
         self.file.flush()
+        os.fsync(self.file.fileno())
+
+    def write(self, line):
+        self.lines.append(line)
+        self.file.write(line + b"\n")
+
+    def close(self):
+        """Ends the file. Behind an edit whose reply didn't come those that came stand too."""
+        for version in sorted(self.early):
+            self.write(self.early.pop(version))
+        self.file.close()
 
     def settle(self, journal):
         """Removes the file where the journal has all that was answered, and says whether it has."""
-        self.file.close()
-        wanted = b"".join(line + b"\n" for line in self.lines)
         try:
+            self.close()
             with open(journal, "rb") as file:
                 whole = file.read()
         except OSError:
-            whole = None
+            return False
         # An edit whose reply nobody read any more may stand behind those that were answered.
-        if whole is None or not whole.startswith(wanted):
+        if not whole.startswith(b"".join(line + b"\n" for line in self.lines)):
             return False
         os.remove(self.name)
         return True
 
     def drop(self):
         """Removes the file of a run that answered nothing."""
-        self.file.close()
+        self.close()
         if not self.lines:
             os.remove(self.name)
 
@@ -188,10 +197,17 @@ class Office:
         with self.lock:
             self.edits[version] = record
             self.newest = max(self.newest, version)
-            self.answered.note(version, line)
             self.tell({"say": "edited", **record})
+            self.note(version, line)
             self.to_count |= {kind for kind in made.classes if kind in self.counts} | {made.to}
             self.counting.notify()
+
+    def note(self, version, line):
+        """Writes an edit down, and tells all tabs where that can't be done. The lock is held."""
+        try:
+            self.answered.note(version, line)
+        except OSError as fault:
+            self.tell({"say": "wrong", "text": f"{self.answered.name}: {fault.strerror}: until the end the edits are in memory alone"})
 
     def count(self):
         """Counts the records of classes that an edit may have changed, by the office's own session."""

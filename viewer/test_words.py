@@ -240,14 +240,22 @@ class Journals(Case):
             answered.note(version, line)
         with open(f"{journal}.answered", "rb") as file:
             self.assertEqual(file.read(), b"edit a\nedit b\n")
-        with open(journal, "wb") as file:
-            file.write(b"edit a\n")
-        self.assertFalse(answered.settle(journal))
-        self.assertTrue(os.path.exists(answered.name))
-        with open(journal, "wb") as file:
-            file.write(b"edit a\nedit b\nedit c\n")
-        self.assertTrue(answered.settle(journal))
-        self.assertFalse(os.path.exists(answered.name))
+        answered.close()
+        with open(f"{journal}.answered", "rb") as file:
+            self.assertEqual(file.read(), b"edit a\nedit b\nedit d\n")
+
+    def test_the_file_goes_where_the_journal_has_all_that_was_answered(self):
+        for at, (journal, whole) in enumerate((
+            (b"edit a\nedit b\n", True), (b"edit a\nedit b\nedit c\n", True), (b"edit a\n", False), (b"", False), (None, False),
+        )):
+            name = os.path.join(self.folder, str(at))
+            answered = office.Answered(name)
+            answered.note(1, b"edit a")
+            answered.note(2, b"edit b")
+            if journal is not None:
+                with open(name, "wb") as file:
+                    file.write(journal)
+            self.assertEqual((answered.settle(name), os.path.exists(answered.name)), (whole, not whole))
 
     def test_what_is_there_is_not_overwritten(self):
         with open(os.path.join(self.folder, "journal.answered"), "wb") as file:
