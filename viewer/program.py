@@ -3,6 +3,7 @@
 import contextlib
 import fcntl
 import os
+import select
 import signal
 import subprocess
 import sys
@@ -18,19 +19,66 @@ SESSIONS = 16
 # Bytes of a session's input that are kept for edits, counts and saved files.
 KEPT = 2**14
 PIPE_SIZE = 2**20
+# Python names it from 3.10 on.
+F_SETPIPE_SZ = 1031
 PIECE = 2**18
+# Seconds without a byte after which a session is held to have ended: while others run its pipes stay open.
+SILENT = 120
 
 
 class Broken(Exception):
     """A pipe of a session broke: in one line, what is known of it."""
 
 
+class Replies:
+    """What comes of a session, as `session_ends.read_head` reads it, but for no longer than it is worth to wait."""
+
+    def __init__(self, come, silent=SILENT):
+        self.come, self.silent = come, silent
+        self.rest = b""
+        self.poll = select.poll()
+        self.poll.register(come.fileno(), select.POLLIN)
+
+    def wait(self):
+        """Waits for the next bytes or the end."""
+        if not self.poll.poll(1000 * self.silent):
+            raise Broken(f"no reply came for {self.silent} seconds, so a session has ended early")
+
+    def readline(self, most):
+        while b"\n" not in self.rest and len(self.rest) < most:
+            self.wait()
+            piece = os.read(self.come.fileno(), most)
+            if not piece:
+                break
+            self.rest += piece
+        end = self.rest.find(b"\n") + 1 or most
+        line, self.rest = self.rest[:end], self.rest[end:]
+        return line
+
+    def read(self, size):
+        """So many bytes, or fewer at the end."""
+        content = bytearray(size)
+        at = min(size, len(self.rest))
+        content[:at], self.rest = self.rest[:at], self.rest[at:]
+        while at < size:
+            self.wait()
+            got = os.readv(self.come.fileno(), [memoryview(content)[at:]])
+            if not got:
+                break
+            at += got
+        return memoryview(content)[:at]
+
+    def drain(self):
+        """Reads what still comes until the end, and drops it."""
+        while os.read(self.come.fileno(), PIECE):
+            pass
+
+
 class Session:
     """One session's ends. Its lines are answered one after another."""
 
-    def __init__(self, number, ends):
-        self.number = number
-        self.to, self.come = ends
+    def __init__(self, number, to, replies):
+        self.number, self.to, self.replies = number, to, replies
         self.room = MOST_INPUT
         self.lock = threading.Lock()
 
@@ -46,7 +94,7 @@ class Session:
         self.room -= len(data)
         try:
             self.to.write(data)
-            head, size = session_ends.read_head(self.come)
+            head, size = session_ends.read_head(self.replies)
         except (OSError, ValueError):
             size = None
         if size is None:
@@ -55,7 +103,7 @@ class Session:
 
     def read(self, size):
         """The next bytes of a reply."""
-        content = self.come.read(size)
+        content = self.replies.read(size)
         if len(content) != size:
             raise Broken(f"the pipe of session {self.number} broke within a reply")
         return content
@@ -85,8 +133,7 @@ class Session:
     def drain(self):
         """Reads what may still come, so that the program can end."""
         with contextlib.suppress(OSError, ValueError):
-            while self.come.read(PIECE):
-                pass
+            self.replies.drain()
 
 
 class Program:
@@ -107,7 +154,7 @@ class Program:
             self.listener = threading.Thread(target=self.listen, daemon=True)
             self.listener.start()
             try:
-                self.sessions = [Session(at, self.open(at, pair)) for at, pair in enumerate(names, 1)]
+                self.sessions = [self.open(at, pair) for at, pair in enumerate(names, 1)]
                 # A reply says that the journal was opened too.
                 self.sessions[-1].ask("count all show")
             except (Broken, Wrong):
@@ -117,10 +164,10 @@ class Program:
                 raise
 
     def open(self, at, pipes):
-        ends = session_ends.open_pipes(pipes, self.process, f"session {at}")
+        to, come = session_ends.open_pipes(pipes, self.process, f"session {at}")
         with contextlib.suppress(OSError):
-            fcntl.fcntl(ends[1], fcntl.F_SETPIPE_SZ, PIPE_SIZE)
-        return ends
+            fcntl.fcntl(come, F_SETPIPE_SZ, PIPE_SIZE)
+        return Session(at, to, Replies(come))
 
     def listen(self):
         """Hands on what the program says."""

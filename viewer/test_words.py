@@ -268,7 +268,7 @@ class Rooms(unittest.TestCase):
     def office(self, *rooms):
         """An office whose sessions have so many bytes of input left: one with a seat, and spares."""
         made = office.Office.__new__(office.Office)
-        sessions = [program.Session(at, (None, None)) for at, _ in enumerate(rooms, 1)]
+        sessions = [program.Session(at, None, None) for at, _ in enumerate(rooms, 1)]
         for session, room in zip(sessions, rooms):
             session.room = room
         made.lock, made.spares = threading.Lock(), sessions[1:]
@@ -287,6 +287,51 @@ class Rooms(unittest.TestCase):
         with self.assertRaisesRegex(Wrong, "as many views as they take"):
             made.session_for(one, "view 45678")
         self.assertIs(made.session_for(one, "edit 45678", kept=0), sessions[0])
+
+
+class Replying(unittest.TestCase):
+    def setUp(self):
+        come, self.out = (os.fdopen(end, mode, 0) for end, mode in zip(os.pipe(), ("rb", "wb")))
+        to, told = (os.fdopen(end, mode, 0) for end, mode in zip(reversed(os.pipe()), ("wb", "rb")))
+        for file in (come, self.out, to, told):
+            self.addCleanup(file.close)
+        self.told = told
+        self.session = program.Session(7, to, program.Replies(come, silent=0.05))
+
+    def test_a_reply_is_read_as_far_as_it_goes_and_no_further(self):
+        self.out.write(b"FILE 3 12\nCOUNT 1 2\nabCOUNT 0 5\n")
+        self.assertEqual(self.session.ask("save"), (["FILE", "3", "12"], b"COUNT 1 2\nab"))
+        self.assertEqual(self.session.ask("count 2 show"), (["COUNT", "0", "5"], b""))
+        self.assertEqual((self.told.read(100), self.session.room), (b"save\ncount 2 show\n", 2**20 - 18))
+
+    def test_a_session_that_says_nothing_for_long_has_ended(self):
+        with self.assertRaisesRegex(program.Broken, "no reply came for 0.05 seconds"):
+            self.session.ask("save")
+
+    def test_a_reply_that_breaks_off_breaks_the_session(self):
+        for replied, told in (
+            (b"PICTURE 0 4\nabc", "the pipe of session 7 broke within a reply"), (b"PICTURE 0", "the pipe of session 7 broke"),
+            (b"", "the pipe of session 7 broke"), (b"no head\n", "the pipe of session 7 broke"),
+        ):
+            self.setUp()
+            self.out.write(replied)
+            self.out.close()
+            with self.assertRaises(program.Broken) as caught:
+                self.session.ask("save")
+            self.assertEqual(str(caught.exception), told)
+
+    def test_a_line_for_which_there_is_no_room_is_not_sent(self):
+        self.session.room = 4
+        with self.assertRaisesRegex(Wrong, "as many lines as it takes"):
+            self.session.ask("save")
+        self.assertEqual(self.session.room, 4)
+
+    def test_a_file_whose_taker_is_gone_is_read_to_its_end(self):
+        self.out.write(b"FILE 0 6\nabcdefCOUNT 0 5\n")
+        taken = []
+        self.session.ask_pieces("save", lambda words, size: taken.append((words, size)) or False, taken.append)
+        self.assertEqual(taken, [(["FILE", "0", "6"], 6)])
+        self.assertEqual(self.session.ask("count 2 show")[0], ["COUNT", "0", "5"])
 
 
 class Frames(unittest.TestCase):
