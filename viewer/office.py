@@ -3,6 +3,7 @@
 import contextlib
 import os
 import socket
+import subprocess
 import threading
 import time
 
@@ -242,7 +243,7 @@ class Office:
 
     def broken(self, fault):
         """A pipe broke: this is the end of the run, since nobody knows what the program does then."""
-        with contextlib.suppress(Exception):
+        with contextlib.suppress(subprocess.TimeoutExpired):
             self.program.process.wait(2)
         self.end(str(fault), failed=True)
 

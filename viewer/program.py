@@ -158,6 +158,9 @@ class Program:
                 # A reply says that the journal was opened too.
                 self.sessions[-1].ask("count all show")
             except (Broken, Wrong):
+                with contextlib.suppress(subprocess.TimeoutExpired):
+                    self.process.wait(2)
+                self.kill()
                 raise Wrong(f"the program doesn't serve: {self.how_it_ended()}") from None
             except BaseException:
                 self.kill()

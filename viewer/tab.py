@@ -69,6 +69,8 @@ class Tab:
                 self.on_way = max(0, self.on_way - 1)
             elif len(self.tasks) < MOST_TASKS:
                 self.tasks.append(asked)
+            else:
+                self.tell({"say": "wrong", "n": asked.get("n"), "text": "too much was asked before this was answered"})
             self.wake.notify()
 
     def next(self):

@@ -260,8 +260,10 @@ class Looking(Page):
             self.settled()
             self.assertEqual(" ".join(self.find("words").get_attribute("value").split()[12:15]), words)
             self.assertTrue(self.find("select").get_attribute("disabled"))
-        for key, kind in (("6", "ortho"), ("7", "persp"), ("1", "ortho")):
-            self.find("stage").send_keys(key)
+        # Keys are heard also where a button was pressed last.
+        self.driver.find_element(By.CSS_SELECTOR, "[data-view=oblique]").click()
+        for key, kind in (("7", "persp"), ("6", "ortho"), ("7", "persp"), ("1", "ortho")):
+            ActionChains(self.driver).send_keys(key).perform()
             self.settled()
             self.assertEqual(self.find("words").get_attribute("value").split()[0], kind)
         self.assertEqual(self.find("words").get_attribute("value").split()[14][:1], "-")

@@ -388,6 +388,10 @@ class Frames(unittest.TestCase):
         one.heard(web_socket.TEXT, b'{"ask":"line","n":"line"}')
         self.assertEqual(one.next(), ("task", {"ask": "line", "n": "line"}))
         self.assertEqual(one.next(), ("view", {"ask": "view", "n": 3}))
+        for n in range(33):
+            one.heard(web_socket.TEXT, json.dumps({"ask": "line", "n": n}).encode())
+        self.assertEqual(one.next(), ("tell", {"say": "wrong", "n": 32, "text": "too much was asked before this was answered"}))
+        self.assertEqual([one.next()[1]["n"] for _ in range(32)], list(range(32)))
         for data in (b"no json", b"[1]", b'"text"', b"{", b"\xff"):
             with self.assertRaises(web_socket.Closed):
                 one.heard(web_socket.TEXT, data)

@@ -9,7 +9,6 @@ import http.server
 import os
 import re
 import secrets
-import socket
 import socketserver
 import threading
 import urllib.parse
@@ -206,14 +205,3 @@ class Handler(http.server.BaseHTTPRequestHandler):
         except OSError:
             self.close_connection = True
             return False
-
-
-def can_listen(port):
-    """Why this port can't be had, or nothing."""
-    with socket.socket() as tried:
-        tried.setsockopt(socket.SOL_SOCKET, socket.SO_REUSEADDR, 1)
-        try:
-            tried.bind((ADDRESS, port))
-        except OSError as fault:
-            return fault.strerror
-    return None

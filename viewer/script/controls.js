@@ -106,8 +106,10 @@ const KEYS = {
 };
 
 addEventListener("keydown", (event) => {
-  const key = event.key.toLowerCase();
-  if (!camera || event.ctrlKey || event.altKey || event.metaKey || /INPUT|TEXTAREA|SELECT|BUTTON/.test(event.target.tagName)) return;
+  const key = event.key.toLowerCase(), {tagName, type} = event.target;
+  const presses = tagName === "BUTTON" || type === "checkbox";
+  if (!camera || event.ctrlKey || event.altKey || event.metaKey) return;
+  if (presses ? key === "enter" || key === " " : /INPUT|TEXTAREA|SELECT/.test(tagName)) return;
   if (VIEW_KEYS[key]) look(VIEW_KEYS[key]);
   else if (camera.form === "persp" && FLIGHT_KEYS.includes(key)) held.add(key);
   else if (KEYS[key]) KEYS[key]();

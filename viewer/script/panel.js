@@ -34,7 +34,7 @@ function showWords() {
   const view = camera.form === "persp" ? "flight" : is || "oblique";
   for (const button of $("views").children) button.classList.toggle("on", button.dataset.view === view);
   $("select").disabled = view !== "above";
-  $("select").title = view === "above" ? "R" : "a rectangle is drawn on a view from above";
+  $("select").title = view === "above" ? "R" : "a rectangle is drawn on a view from above, with north at the top";
   if (view !== "above") select(false);
   showState();
 }
