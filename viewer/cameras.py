@@ -7,7 +7,6 @@ direction of the compass, in degrees; `angle`, the angle of view of a flight; an
 
 import math
 import re
-from fractions import Fraction
 from typing import NamedTuple
 
 import aim

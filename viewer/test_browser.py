@@ -34,9 +34,10 @@ if IS_THERE:
     from selenium.webdriver.common.keys import Keys
     from selenium.webdriver.support.ui import Select
 
-import test_viewer
-import assemble
+import fields
 from tab_client import Viewer
+
+import assemble
 
 LONGEST = 30
 # The usual colours of classes 2, 5, 6, 9 and 17, in maps: brown, dark green, orange, blue and light brown.
@@ -59,7 +60,7 @@ def setUpModule():
     unittest.addModuleCleanup(Page.driver.quit)
 
 
-class Page(test_viewer.Case):
+class Page(fields.Case):
     """A tab of the browser on the page of a viewer over the survey of four fields."""
 
     # A viewer that several tests look at, each in a tab of its own; else each test has one of its own.
@@ -71,7 +72,7 @@ class Page(test_viewer.Case):
         cls.addClassCleanup(folder.cleanup)
         survey = os.path.join(folder.name, "fields.las")
         with open(survey, "wb") as file:
-            file.write(test_viewer.survey_bytes())
+            file.write(fields.survey_bytes())
         cls.shared = Viewer(survey, folder.name)
         cls.addClassCleanup(cls.shared.end)
 
@@ -345,7 +346,7 @@ class Working(Page):
     def saved(self):
         self.click("save")
         name = self.path("fields-version-1.las")
-        wanted = test_viewer.with_class(test_viewer.survey_bytes(), lambda p: 17 if 2000 <= p.x <= 2950 and 2000 <= p.y <= 2950 else None)
+        wanted = fields.with_class(fields.survey_bytes(), lambda p: 17 if 2000 <= p.x <= 2950 and 2000 <= p.y <= 2950 else None)
         self.wait(lambda: os.path.exists(name) and os.path.getsize(name) == len(wanted), "the file")
         self.assertEqual(self.read("fields-version-1.las"), wanted)
 
