@@ -153,10 +153,11 @@ class Office:
                 tab.session = best
             return tab.session
 
-    def room(self):
-        """The part of all views of this run that can still be asked for."""
-        sessions = self.program.sessions[:-1]
-        return sum(session.room for session in sessions) / (MOST_INPUT * len(sessions))
+    def room(self, tab):
+        """The part of the views that the tab's session and the spares take which can still be asked for."""
+        with self.lock:
+            left = [max(0, session.room - KEPT) for session in (tab.session, *self.spares)]
+        return sum(left) / len(left) / (MOST_INPUT - KEPT)
 
     @contextlib.contextmanager
     def session_to_save(self, connection):

@@ -160,7 +160,7 @@ class Tab:
         packs = asked.get("pack") is True
         self.send_picture({
             "say": "picture", "n": asked.get("n"), "version": int(words[1]), "words": view.words, "stands": view.stands,
-            "divide": divide, "size": [width, height], "packed": packs, "room": self.office.room(),
+            "divide": divide, "size": [width, height], "packed": packs, "room": self.office.room(self),
             "drawn": round(1000 * (time.monotonic() - begun)),
         }, zlib.compress(pixels, 1) if packs else pixels)
 

@@ -104,7 +104,7 @@ class Page(fields.Case):
                 found = None
             if found:
                 return found
-            time.sleep(0.02)
+            time.sleep(0.05)
         self.fail(f"{told} didn't come")
 
     def find(self, name):

@@ -78,6 +78,11 @@ class Rooms(unittest.TestCase):
         made, one, sessions = self.office(16384 + 11, 40000)
         self.assertIs(made.session_for(one, "view 45678"), sessions[0])
 
+    def test_the_part_that_is_left_is_that_of_the_session_and_the_spares(self):
+        # Of 2^20 bytes 2^14 are kept: 1032192 are for views.
+        made, one, _ = self.office(2**20, 16384 + 516096, 16000)
+        self.assertEqual(made.room(one), 0.5)
+
     def test_where_no_session_has_room_the_view_is_refused_and_an_edit_is_not(self):
         made, one, sessions = self.office(16000, 16394)
         with self.assertRaisesRegex(Wrong, "as many views as they take"):

@@ -71,8 +71,9 @@ class Pictures(Case):
             client.say(wrong)
             client.wait_for("wrong")
         after = client.picture(n=3, **VIEW)
-        # The line of the second picture has `view `, its words and an LF, of 2^20 bytes for each of 15 sessions.
-        self.assertAlmostEqual(before["room"] - after["room"], (len(after["words"]) + 6) / 15 / 2**20, 12)
+        # The line of the second picture has `view `, its words and an LF. The tab's session and seven spares take
+        # 2^20 bytes each, of which 2^14 are kept for edits.
+        self.assertAlmostEqual(before["room"] - after["room"], (len(after["words"]) + 6) / 8 / (2**20 - 2**14), 12)
 
 
 class Edits(Case):
@@ -163,7 +164,7 @@ class Seats(Case):
             client.close()
         # The first line that the session gets is that of this picture: `view `, its words and an LF.
         picture = self.seated(viewer).picture(n=1, **VIEW)
-        self.assertAlmostEqual(picture["room"], 1 - (len(picture["words"]) + 6) / 15 / 2**20, 12)
+        self.assertAlmostEqual(picture["room"], 1 - (len(picture["words"]) + 6) / 15 / (2**20 - 2**14), 12)
 
 
 if __name__ == "__main__":

@@ -41,7 +41,7 @@ function showWords() {
 
 function showState() {
   const drawing = asks.size ? ", drawing .." : "";
-  const left = room < 0.5 ? ` · ${Math.round(room * 100)} % of this run's views are left` : "";
+  const left = room < 0.5 ? ` · ${Math.round(room * 100)} % of the views are left` : "";
   $("state").textContent = seat ? (picture ? `seat ${seat} · version ${picture.version} · ${picture.took || 0} ms${drawing}${left}` : `seat ${seat}`) : "no seat yet";
 }
 
