@@ -182,5 +182,6 @@ function goTo(text) {
   moved();
 }
 
+sit();
 connect();
 requestAnimationFrame(frame);
