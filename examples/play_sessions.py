@@ -15,9 +15,8 @@ import os
 import re
 import subprocess
 import tempfile
-import time
 
-import replies
+import session_ends
 import session_lines
 from script_ends import Words, Wrong, read_bytes, run
 from survey_head import head
@@ -40,24 +39,11 @@ class Player:
 
     def __init__(self, name, pipes, folder):
         self.name = name
-        self.pipes = [os.path.join(pipes, f"{name}.{end}") for end in ("in", "out")]
+        self.pipes = session_ends.make_pipes(pipes, name)
         self.files = [open(os.path.join(folder, f"{name}.{end}"), "wb") for end in ("in", "out")]
-        for pipe in self.pipes:
-            os.mkfifo(pipe)
 
     def open(self, program):
-        """Opens IN and then OUT, as the program does: in another order both would wait for ever."""
-        while True:
-            try:
-                # Without a reader this fails at once, where plain opening would wait for one.
-                end = os.open(self.pipes[0], os.O_WRONLY | os.O_NONBLOCK)
-                break
-            except OSError:
-                if program.poll() is not None:
-                    raise Wrong(f"the program ended with {program.returncode} before {self.name}'s session") from None
-                time.sleep(0.01)
-        os.set_blocking(end, True)
-        self.to, self.come = os.fdopen(end, "wb", 0), open(self.pipes[1], "rb")
+        self.to, self.come = session_ends.open_pipes(self.pipes, program, self.name)
 
     def ask(self, text):
         """Writes a line, and gives the first line of its reply."""
@@ -69,13 +55,12 @@ class Player:
             raise Wrong(f"{self.name}: the program went away before {text}") from None
         if not any(session_lines.answered(line)):
             return "(no reply)"
-        first = self.come.readline(80)
-        self.files[1].write(first)
-        found = replies.HEAD.fullmatch(first)
-        if not found:
+        head, size = session_ends.read_head(self.come)
+        self.files[1].write(head)
+        if size is None:
             raise Wrong(f"{self.name}: no reply came to {text}")
-        self.files[1].write(self.come.read(int(found[3] or 0)))
-        return first.decode().strip()
+        self.files[1].write(self.come.read(size))
+        return head.decode().strip()
 
     def close(self):
         self.files[1].write(self.come.read())

@@ -96,7 +96,7 @@ def main():
         sys.exit(f"the program can't be run: {built.stderr.decode('utf-8', 'replace')}")
     wrong, terminals = 0, {}
     with tempfile.TemporaryDirectory() as folder:
-        for name in ("hidrevca", "demo", "demo-out", "examples"):
+        for name in ("hidrevca", "demo", "demo-out", "examples", "viewer"):
             os.symlink(os.path.join(ROOT, name), os.path.join(folder, name))
         for terminal, command, expected in commands:
             if terminal and terminal not in terminals:
