@@ -1,15 +1,17 @@
 #!/usr/bin/env python3
 """Times the program's commands over two surveys that it makes, alone or beside another program.
 
-    python3 bench/commands/run.py [--beside PROGRAM] [--quick] [--json FILE] [--page [FILE]]
+    python3 bench/commands/run.py [--beside PROGRAM] [--growth] [--quick] [--json FILE] [--page [FILE]]
 
 One survey is a terrain in scan order, the other a cloud in random order; both have --records records
 of format 6. Each of --rounds rounds does each work once. Where PROGRAM is given, which has the same command
 line, a work is done by the one and then by the other, in the next round the other way about, and what both
 wrote is compared byte for byte. Standard output gets a table in Markdown: the least of the rounds, behind
-it the ratio of both programs' least, and in brackets the middle ratio of the rounds. --page puts it into
-docs/PERFORMANCE.md, or FILE, between two marks. --json keeps all numbers, and --from makes the table of kept
-ones. Ends with 1 where outputs differ or a run fails, as one that takes longer than --limit seconds.
+it the ratio of both programs' least, and in brackets the middle ratio of the rounds. --growth times the
+program alone besides, by the parts of its work and over fewer records, pixels, workers and sessions, for a
+second table. --page puts what is printed into docs/PERFORMANCE.md, or FILE, between two marks. --json keeps
+all numbers, and --from prints kept ones. Ends with 1 where outputs differ or a run fails, as one does that
+takes longer than --limit seconds.
 
 The program is the built one, with the variable of the allocator that the launcher gives it; PROGRAM gets
 the variables as they are. Surveys and outputs take 2 GB in /dev/shm where that is there, and are removed;
@@ -30,6 +32,7 @@ import tempfile
 
 ROOT = os.path.dirname(os.path.dirname(os.path.dirname(os.path.realpath(__file__))))
 sys.path.insert(0, os.path.join(ROOT, "examples"))
+from growth import grown
 from programs import Program
 from script_ends import Words, Wrong, read_text, run, write_bytes
 from surveys import surveys
@@ -52,12 +55,17 @@ def tunables():
     return {"GLIBC_TUNABLES": ":".join(told)}
 
 
-def times(given, folder):
-    """What the rounds gave: by survey, work and workers the numbers of each program; and what went wrong."""
-    found, faults = collections.defaultdict(lambda: ([], [])), []
+def both(given, folder):
+    """The program, and the one beside it where there is one."""
     programs = [Program(os.path.abspath(given.program), tunables(), os.path.join(folder, "0"))]
     if given.beside:
         programs.append(Program(os.path.abspath(given.beside), {}, os.path.join(folder, "1")))
+    return programs
+
+
+def times(given, folder, programs):
+    """What the rounds gave: by survey, work and workers the numbers of each program; and what went wrong."""
+    found, faults = collections.defaultdict(lambda: ([], [])), []
     made = list(surveys(given.folder or folder, given.records))
     for turn in range(given.rounds):
         for survey in made:
@@ -87,7 +95,7 @@ def once(work, programs, reverse, survey, limit, found):
         shutil.rmtree(program.folder)
 
 
-def kept(given, found, faults):
+def kept(given, found, faults, growth):
     """All numbers, with where and when they were made."""
     huge = "/sys/kernel/mm/transparent_hugepage/enabled"
     pages = re.search(r"\[(\w+)\]", read_text(huge)) if os.path.exists(huge) else None
@@ -104,6 +112,7 @@ def kept(given, found, faults):
         "records": given.records,
         "rounds": given.rounds,
         "rows": rows,
+        "growth": growth,
         "faults": faults,
     }
 
@@ -148,6 +157,21 @@ def table(all_numbers):
     return "\n".join(lines) + "\n"
 
 
+def growth_table(growth):
+    """Each case, with its ratio to the first one of its group."""
+    lines = ["", "| Grows | Case | " + " | ".join(f"{name} | ratio" for name in ORDERS) + " |", "|---|---|" + "---|---|" * len(ORDERS)]
+    taken = {(row["group"], row["case"], row["survey"]): row["ms"] for row in growth}
+    first = {}
+    for group, case in dict.fromkeys(key[:2] for key in taken):
+        start = first.setdefault(group, case)
+        found = []
+        for order in ORDERS:
+            ms, base = taken[group, case, order], taken[group, start, order]
+            found += [f"{short(ms)} ms", f"{ms / base:.2f}"]
+        lines.append(f"| {group} | {case} | " + " | ".join(found) + " |")
+    return "\n".join(lines) + "\n"
+
+
 def put(page, text):
     """Puts a text between the marks of a page."""
     before, first, rest = read_text(page).partition(MARKS[0])
@@ -164,6 +188,7 @@ def words():
     parser.add_argument("--records", type=int, help="1024 to 2^25 (8388608, or with --quick 1048576)")
     parser.add_argument("--rounds", type=int, help="5, or with --quick 2")
     parser.add_argument("--quick", action="store_true")
+    parser.add_argument("--growth", action="store_true")
     parser.add_argument("--limit", type=float, default=300, metavar="SECONDS")
     parser.add_argument("--folder")
     parser.add_argument("--json", metavar="FILE")
@@ -187,11 +212,16 @@ def numbers_of(given):
     for program in filter(None, (given.program, given.beside)):
         if not os.access(program, os.X_OK):
             raise Wrong(f"{program} can't be run; `./hidrevca` builds the program")
-    for folder in filter(None, (given.folder,)):
-        os.makedirs(folder, exist_ok=True)
+    if given.folder:
+        os.makedirs(given.folder, exist_ok=True)
     memory = "/dev/shm" if os.path.isdir("/dev/shm") else None
     with tempfile.TemporaryDirectory(dir=given.folder or memory) as folder:
-        return kept(given, *times(given, folder))
+        programs = both(given, folder)
+        found, faults = times(given, folder, programs)
+        growth = []
+        if given.growth:
+            growth = grown(programs[0], given.folder or folder, given.records, min(given.rounds, 3), given.limit, say)
+        return kept(given, found, faults, growth)
 
 
 def main():
@@ -199,7 +229,7 @@ def main():
     numbers = numbers_of(given)
     if given.json:
         write_bytes(given.json, (json.dumps(numbers, indent=1) + "\n").encode())
-    text = table(numbers)
+    text = table(numbers) + (growth_table(numbers["growth"]) if numbers["growth"] else "")
     print(text, end="")
     if given.page:
         put(given.page, text)

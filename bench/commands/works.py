@@ -17,11 +17,11 @@ EYE = 100000  # above all records
 START = "serve, from start to the first reply"
 
 
-def above(survey, part, shift=0, colours="class"):
-    """The words of a view from above of the whole survey, or of the middle hundredth."""
+def above(survey, part, shift=0, wide=WIDE, high=HIGH):
+    """The words of a view from above of the whole survey, or of a part of it round the middle."""
     middle = survey.side // 2
-    step = -(-survey.side // HIGH) if part == 1 else max(1, math.isqrt(survey.side**2 // (part * WIDE * HIGH)))
-    return f"ortho {WIDE} {HIGH} {middle + shift} {middle} {EYE} 1 0 0 0 -1 0 0 0 -1 {step} 1 0 4294967294 {colours} all show"
+    step = -(-survey.side // high) if part == 1 else max(1, math.isqrt(survey.side**2 // (part * wide * high)))
+    return f"ortho {wide} {high} {middle + shift} {middle} {EYE} 1 0 0 0 -1 0 0 0 -1 {step} 1 0 4294967294 class all show"
 
 
 def slanted(survey, shift=0):
