@@ -59,9 +59,10 @@ class Launcher(unittest.TestCase):
         with open(os.path.join(self.root, name), "w", encoding="utf-8") as file:
             file.write(text)
 
-    def start(self, words, does, command=None, prepare=default_signals, **more):
+    def start(self, words, does, command=None, prepare=default_signals, variables=(), **more):
         streams = {"stdin": subprocess.PIPE, "stdout": subprocess.PIPE, "stderr": subprocess.PIPE, **more}
-        environment = {**os.environ, "DOES": does}
+        kept = {name: value for name, value in os.environ.items() if not name.startswith(("GLIBC_", "MALLOC_"))}
+        environment = {**kept, "DOES": does, **dict(variables)}
         child = subprocess.Popen(
             [command or self.launcher, *words], cwd=self.root, env=environment, preexec_fn=prepare, **streams
         )
@@ -151,6 +152,35 @@ class Passing(Launcher):
                 os.write(child.stdin.fileno(), b"line\n")
             child.kill()
             child.wait()
+
+
+class Allocator(Launcher):
+    LARGE = "glibc.malloc.hugetlb=1"
+    APART = "glibc.malloc.mmap_threshold=33554432"
+    KEPT = "glibc.malloc.trim_threshold=134217728"
+
+    def told(self, **variables):
+        """What the program sees of the variables of the allocator, whichever way the launcher runs it."""
+        found = [self.end(words, "env | grep -E '^(GLIBC|MALLOC)_' | sort; exit 3", variables=variables) for words in (RIGHT, WRONG)]
+        self.assertEqual(found[0], found[1])
+        self.assertEqual((found[0][0], found[0][2]), (3, b""))
+        return found[0][1].decode().splitlines()
+
+    def test_the_program_is_told_of_large_pages_and_of_what_to_keep(self):
+        self.assertEqual(self.told(), [f"GLIBC_TUNABLES={self.LARGE}:{self.APART}:{self.KEPT}"])
+
+    def test_a_users_own_tunables_stay(self):
+        for value in ("glibc.malloc.arena_max=1", ""):
+            self.assertEqual(self.told(GLIBC_TUNABLES=value), [f"GLIBC_TUNABLES={value}"])
+
+    def test_a_users_own_thresholds_stay(self):
+        # The C library would take the tunable where both are there.
+        for name, left in (
+            ("MALLOC_MMAP_THRESHOLD_", f"{self.LARGE}:{self.KEPT}"),
+            ("MALLOC_TRIM_THRESHOLD_", f"{self.LARGE}:{self.APART}"),
+            ("MALLOC_ARENA_MAX", f"{self.LARGE}:{self.APART}:{self.KEPT}"),
+        ):
+            self.assertEqual(self.told(**{name: "65536"}), [f"GLIBC_TUNABLES={left}", f"{name}=65536"])
 
 
 class Signals(Launcher):
