@@ -29,7 +29,9 @@ class Case:
 
 
 def length_of(lot):
-    """Mostly short, some long."""
+    """Mostly short, some long: a block has at most 1024 records, and a page of classes 4096."""
+    if lot.random() < 0.01:
+        return lot.choice((1023, 1024, 1025, 1400, 2100, 4097))
     return lot.choice((0, 1, 1, 2, 3, 5, 8, 13, 30, lot.randint(0, 60)))
 
 

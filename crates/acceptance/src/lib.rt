@@ -9,6 +9,8 @@ mod arriving;
 #[cfg(test)]
 mod breaking;
 #[cfg(test)]
+mod damaged;
+#[cfg(test)]
 mod desks;
 #[cfg(test)]
 mod dialogue;
@@ -25,6 +27,8 @@ mod host;
 #[cfg(test)]
 mod leaving;
 #[cfg(test)]
+mod lines;
+#[cfg(test)]
 mod older;
 #[cfg(test)]
 mod pairs;
@@ -39,7 +43,11 @@ mod refusals;
 #[cfg(test)]
 mod same;
 #[cfg(test)]
+mod scarce;
+#[cfg(test)]
 mod serving;
+#[cfg(test)]
+mod sides;
 #[cfg(test)]
 mod sixteen;
 #[cfg(test)]
