@@ -34,8 +34,8 @@ from script_ends import Words, Wrong
 
 ROOT = os.path.dirname(os.path.dirname(os.path.realpath(__file__)))
 PROGRAM = os.path.join(ROOT, "crates", "view_main", "out", "view_main")
-# So many runs in a row without a refusal are the end: where threads race their number differs from run to run.
-BATCH = 32
+# So many runs in a row without a refusal are the end: where threads race, their number differs from run to run.
+BATCH = 16
 LONGEST = 60
 OLD = b"as it was, and longer than some of what is written" * 40
 DONE, MEMORY, NOT_BUILT = (0, b""), (11, b"out of memory\n"), (12, b"not built yet\n")
