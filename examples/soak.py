@@ -34,7 +34,7 @@ PROGRAM = os.path.join(ROOT, "crates", "view_main", "out", "view_main")
 FORM, LENGTH = 7, 36
 ENTRY_BYTES, SLACK = 256, 16 << 20
 # The shares of a viewer's lines that are saves, and views; all others are counts.
-SAVES, VIEWS = 0.002, 0.1
+SAVES, VIEWS = 0.002, 0.05
 
 
 def make_survey(name, records, lot):

@@ -4,7 +4,6 @@ use crate::desks::{command, fill, holds};
 use crate::host::Host;
 use crate::plain::{ONE, plain};
 use crate::racing::SERVE_TWO;
-use crate::same::same;
 use crate::serving::{SERVE, command_ended, end_is, entries_by, then_file};
 use sessions::Reason;
 use std::alloc::Global;
@@ -90,7 +89,8 @@ fn serves(
     let mut desk = Scarce { inner, name };
     let ended = command(rt, alloc, &mut desk, line)?;
     finished(rt, &ended, journal);
-    Ok(desk.inner)
+    let Scarce { inner, .. } = desk;
+    Ok(inner)
 }
 
 /// Serves one session whose output, and then whose journal, can't be kept for want of memory.

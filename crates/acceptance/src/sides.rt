@@ -24,21 +24,26 @@ const EDITED: usize = 11;
 /// The script of the other session, and its reply before the edit and after it.
 const COUNT: &[u8] = b"count all show\n";
 
-const COUNTED: [&[u8]; 2] = [b"COUNT 0 1\n", b"COUNT 1 1\n"];
+const COUNTED_0: &[u8] = b"COUNT 0 1\n";
+
+const COUNTED_1: &[u8] = b"COUNT 1 1\n";
 
 const NONE: &[u8] = b"";
 
-/// One of two sessions, from 0, with the names of its files and the place of its input's word; and
-/// the other one.
+/// One of two sessions, from 0, with the names of its files and the places of their words; and the
+/// other one, with its number among the makers of entries.
 #[derive(Clone, Copy)]
 struct Side<'a> {
     number: usize,
     input: &'a str,
     output: &'a str,
-    at: u32,
+    input_at: u32,
+    output_at: u32,
+    who: u32,
     other: usize,
     other_input: &'a str,
     other_output: &'a str,
+    other_who: u32,
 }
 
 const SIDES: [Side; 2] = [
@@ -46,19 +51,25 @@ const SIDES: [Side; 2] = [
         number: 0,
         input: "i1",
         output: "o1",
-        at: 4,
+        input_at: 4,
+        output_at: 5,
+        who: 1,
         other: 1,
         other_input: "i2",
         other_output: "o2",
+        other_who: 2,
     },
     Side {
         number: 1,
         input: "i2",
         output: "o2",
-        at: 6,
+        input_at: 6,
+        output_at: 7,
+        who: 2,
         other: 0,
         other_input: "i1",
         other_output: "o1",
+        other_who: 1,
     },
 ];
 
@@ -84,13 +95,12 @@ fn prepare(alloc: Global, desk: &mut MemDesk, side: Side, call: Call) -> Result<
 /// The other session has to have finished, with the count of version 0 or, where the edit was
 /// published, of version 1.
 fn other_finished(rt: &impl Abort, desk: &MemDesk, ended: &Ended, side: Side, edits: usize) {
-    let newer = edits > 0 && desk.bytes_of(side.other_output) == Some(COUNTED[1]);
-    let version = usize::from(newer);
-    holds(rt, desk, &[(side.other_output, COUNTED[version])], side.other_output);
-    let (taken, mark) = (COUNT.len() as u64, [version as u64]);
-    end_is(rt, &ended.told.sessions, side.other, Reason::Finished, taken, &mark);
-    let who = if side.other == 0 { 1 } else { 2 };
-    entries_by(rt, &ended.told.history, who, b"PU");
+    let newer = edits > 0 && desk.bytes_of(side.other_output) == Some(COUNTED_1);
+    let (mark, counted) = if newer { (1, COUNTED_1) } else { (0, COUNTED_0) };
+    holds(rt, desk, &[(side.other_output, counted)], side.other_output);
+    let (taken, done) = (COUNT.len() as u64, Reason::Finished);
+    end_is(rt, &ended.told.sessions, side.other, done, taken, &[mark]);
+    entries_by(rt, &ended.told.history, side.other_who, b"PU");
 }
 
 /// The session with the call that fails has to have ended so, with an edit and a save of which each
@@ -105,12 +115,11 @@ fn side_ended(rt: &impl Abort, ended: &Ended, side: Side, ending: Ending) {
     } = ending;
     end_is(rt, &ended.told.sessions, side.number, reason, taken, marks);
     let entries = match marks.len() {
-        0 => b"".as_slice(),
-        1 => b"E",
-        _ => b"EPU",
+        0 => NONE,
+        1 => b"E".as_slice(),
+        _ => b"EPU".as_slice(),
     };
-    let who = if side.number == 0 { 1 } else { 2 };
-    entries_by(rt, &ended.told.history, who, entries);
+    entries_by(rt, &ended.told.history, side.who, entries);
 }
 
 /// Serves both sessions with one call that is to fail: it has to end so and to leave these files,
@@ -150,7 +159,7 @@ fn read_fails(
         ([1, 1].as_slice(), all, LINE)
     };
     let ending = Ending {
-        status: Status::ReadFault { at: side.at },
+        status: Status::ReadFault { at: side.input_at },
         reason: Reason::ReadFault,
         taken: at as u64,
         marks,
@@ -175,7 +184,9 @@ fn write_fails(
         [1, 1].as_slice()
     };
     let ending = Ending {
-        status: Status::WriteFault { at: side.at + 1 },
+        status: Status::WriteFault {
+            at: side.output_at,
+        },
         reason: Reason::WriteFault,
         taken: SAVING.len() as u64,
         marks,
@@ -196,11 +207,12 @@ fn late(
     journal: Reason,
     files: &[File],
 ) -> Result<(), Fail> {
+    let marks = [1, 1];
     let ending = Ending {
         status: Status::WriteFault { at },
         reason: Reason::Finished,
         taken: SAVING.len() as u64,
-        marks: &[1, 1],
+        marks: &marks,
         journal,
     };
     fails(rt, alloc, side, call, ending, files)
@@ -210,7 +222,7 @@ fn late(
 fn late_ones(rt: &impl Host, alloc: Global, side: Side, all: &[u8]) -> Result<(), Fail> {
     let keep: Call = (side.output, DeskCall::Keep, 0);
     let whole: File = ("j", LINE);
-    late(rt, alloc, side, keep, side.at + 1, Reason::Finished, &[whole])?;
+    late(rt, alloc, side, keep, side.output_at, Reason::Finished, &[whole])?;
     let out: File = (side.output, all);
     let failed = Reason::WriteFault;
     late(rt, alloc, side, ("j", DeskCall::Keep, 0), 3, failed, &[out])?;
@@ -223,9 +235,10 @@ fn late_ones(rt: &impl Host, alloc: Global, side: Side, all: &[u8]) -> Result<()
 
 /// Serves with each call of one session that can fail, at each place.
 fn each_fails(rt: &impl Host, alloc: Global, side: Side, all: &[u8]) -> Result<(), Fail> {
-    for at in 0..SAVING.len() + 1 {
+    for at in 0..SAVING.len() {
         read_fails(rt, alloc, side, at, all)?;
     }
+    read_fails(rt, alloc, side, SAVING.len(), all)?;
     for at in 0..all.len() {
         write_fails(rt, alloc, side, at, all)?;
     }
