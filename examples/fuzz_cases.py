@@ -143,6 +143,8 @@ def line(lot, made):
 
 def script(lot, made, most):
     text = b"\n".join(line(lot, made) for _ in range(lot.randint(0, most))) + lot.choice((b"", b"\n"))
+    if text and lot.random() < 0.1:
+        text, _ = lot.choice((damage.cut, damage.change, damage.put_in, damage.take_out))(text, lot)
     if lot.random() < 0.003:
         # One byte below the greatest length, at it, or one or more above it.
         wanted = MOST_BYTES + lot.choice((-1, 0, 1, 4000))

@@ -38,10 +38,22 @@ fn refuses_each_front(rt: &impl Host, alloc: Global, file: &[u8]) -> Result<(), 
 /// Each front of the file that lacks at most bytes after its last part.
 fn tells_of_each_front(rt: &impl Host, alloc: Global, file: &[u8]) -> Result<(), Fail> {
     for (have, text) in [
-        (621, b"LAS 1.4\nheader 375\nformat 7\nlength 40\nrecords 3\nvlrs 1\nevlrs 1\nbytes 621\nbox 0 0 80 50 50 100\nclass 1 2\nclass 2 1\n".as_slice()),
-        (622, b"LAS 1.4\nheader 375\nformat 7\nlength 40\nrecords 3\nvlrs 1\nevlrs 1\nbytes 622\nbox 0 0 80 50 50 100\nclass 1 2\nclass 2 1\n"),
-        (623, b"LAS 1.4\nheader 375\nformat 7\nlength 40\nrecords 3\nvlrs 1\nevlrs 1\nbytes 623\nbox 0 0 80 50 50 100\nclass 1 2\nclass 2 1\n"),
-        (624, b"LAS 1.4\nheader 375\nformat 7\nlength 40\nrecords 3\nvlrs 1\nevlrs 1\nbytes 624\nbox 0 0 80 50 50 100\nclass 1 2\nclass 2 1\n"),
+        (
+            621,
+            b"LAS 1.4\nheader 375\nformat 7\nlength 40\nrecords 3\nvlrs 1\nevlrs 1\nbytes 621\nbox 0 0 80 50 50 100\nclass 1 2\nclass 2 1\n".as_slice(),
+        ),
+        (
+            622,
+            b"LAS 1.4\nheader 375\nformat 7\nlength 40\nrecords 3\nvlrs 1\nevlrs 1\nbytes 622\nbox 0 0 80 50 50 100\nclass 1 2\nclass 2 1\n",
+        ),
+        (
+            623,
+            b"LAS 1.4\nheader 375\nformat 7\nlength 40\nrecords 3\nvlrs 1\nevlrs 1\nbytes 623\nbox 0 0 80 50 50 100\nclass 1 2\nclass 2 1\n",
+        ),
+        (
+            624,
+            b"LAS 1.4\nheader 375\nformat 7\nlength 40\nrecords 3\nvlrs 1\nevlrs 1\nbytes 624\nbox 0 0 80 50 50 100\nclass 1 2\nclass 2 1\n",
+        ),
     ] {
         tells(rt, alloc, file.get(..have).unwrap_or(&[]), text)?;
     }
@@ -93,9 +105,19 @@ fn refuses_overflows(rt: &impl Host, alloc: Global, survey: &[u8]) -> Result<(),
         need: 1208907372870555465089400,
         have: 395,
     };
-    refuses(rt, alloc, with_most_points(alloc, survey)?.as_slice(), points)?;
+    refuses(
+        rt,
+        alloc,
+        with_most_points(alloc, survey)?.as_slice(),
+        points,
+    )?;
     let extended = SurveyFault::Evlr { k: 0, at: u64::MAX };
-    refuses(rt, alloc, with_last_record(alloc, survey)?.as_slice(), extended)
+    refuses(
+        rt,
+        alloc,
+        with_last_record(alloc, survey)?.as_slice(),
+        extended,
+    )
 }
 
 #[test]

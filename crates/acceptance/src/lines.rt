@@ -11,7 +11,10 @@ fn hostile_lines_are_refused_by_their_code(rt: HostRuntime) -> Result<(), Fail> 
     );
     for (script, wanted) in [
         // Twenty digits are a class that is too great, and twenty-one are no number.
-        (b"edit 0 0 0 9 9 9 all 99999999999999999999\n".as_slice(), four),
+        (
+            b"edit 0 0 0 9 9 9 all 99999999999999999999\n".as_slice(),
+            four,
+        ),
         (b"edit 0 0 0 9 9 9 all 999999999999999999999\n", one),
         (b"edit 0 0 0 9 9 9 all -1\n", one),
         (b"edit 2147483648 0 0 9 9 9 all 6\n", one),
@@ -21,10 +24,22 @@ fn hostile_lines_are_refused_by_their_code(rt: HostRuntime) -> Result<(), Fail> 
         (b"save x\n", one),
         (b"SAVE\n", one),
         (b"save\0\n", one),
-        (b"view ortho -1 1 0 0 0 1 0 0 0 1 0 0 0 1 1 1 0 10 class all show\n", two),
-        (b"view ortho 1 1 0 0 0 1 0 0 0 1 0 0 0 1 0 1 0 10 class all show\n", two),
-        (b"view ortho +1 1 0 0 0 1 0 0 0 1 0 0 0 1 1 1 0 10 class all show\n", one),
-        (b"view ortho 0 1 0 0 0 1 0 0 0 1 0 0 0 1 1 1 0 10 rgb16 all show\n", two),
+        (
+            b"view ortho -1 1 0 0 0 1 0 0 0 1 0 0 0 1 1 1 0 10 class all show\n",
+            two,
+        ),
+        (
+            b"view ortho 1 1 0 0 0 1 0 0 0 1 0 0 0 1 0 1 0 10 class all show\n",
+            two,
+        ),
+        (
+            b"view ortho +1 1 0 0 0 1 0 0 0 1 0 0 0 1 1 1 0 10 class all show\n",
+            one,
+        ),
+        (
+            b"view ortho 0 1 0 0 0 1 0 0 0 1 0 0 0 1 1 1 0 10 rgb16 all show\n",
+            two,
+        ),
     ] {
         replies(&rt, rt.alloc(), &ONE, script, wanted, b"")?;
     }

@@ -88,7 +88,11 @@ struct Ending<'a> {
 fn prepare(alloc: Global, desk: &mut MemDesk, side: Side, call: Call) -> Result<(), Fail> {
     let survey = plain(alloc, &ONE)?;
     fill(alloc, desk, &[("a.las", survey.as_slice())])?;
-    fill(alloc, desk, &[(side.input, SAVING), (side.other_input, COUNT)])?;
+    fill(
+        alloc,
+        desk,
+        &[(side.input, SAVING), (side.other_input, COUNT)],
+    )?;
     plan(desk, &[call])
 }
 
@@ -96,7 +100,11 @@ fn prepare(alloc: Global, desk: &mut MemDesk, side: Side, call: Call) -> Result<
 /// published, of version 1.
 fn other_finished(rt: &impl Abort, desk: &MemDesk, ended: &Ended, side: Side, edits: usize) {
     let newer = edits > 0 && desk.bytes_of(side.other_output) == Some(COUNTED_1);
-    let (mark, counted) = if newer { (1, COUNTED_1) } else { (0, COUNTED_0) };
+    let (mark, counted) = if newer {
+        (1, COUNTED_1)
+    } else {
+        (0, COUNTED_0)
+    };
     holds(rt, desk, &[(side.other_output, counted)], side.other_output);
     let (taken, done) = (COUNT.len() as u64, Reason::Finished);
     end_is(rt, &ended.told.sessions, side.other, done, taken, &[mark]);
@@ -184,9 +192,7 @@ fn write_fails(
         [1, 1].as_slice()
     };
     let ending = Ending {
-        status: Status::WriteFault {
-            at: side.output_at,
-        },
+        status: Status::WriteFault { at: side.output_at },
         reason: Reason::WriteFault,
         taken: SAVING.len() as u64,
         marks,
@@ -222,7 +228,15 @@ fn late(
 fn late_ones(rt: &impl Host, alloc: Global, side: Side, all: &[u8]) -> Result<(), Fail> {
     let keep: Call = (side.output, DeskCall::Keep, 0);
     let whole: File = ("j", LINE);
-    late(rt, alloc, side, keep, side.output_at, Reason::Finished, &[whole])?;
+    late(
+        rt,
+        alloc,
+        side,
+        keep,
+        side.output_at,
+        Reason::Finished,
+        &[whole],
+    )?;
     let out: File = (side.output, all);
     let failed = Reason::WriteFault;
     late(rt, alloc, side, ("j", DeskCall::Keep, 0), 3, failed, &[out])?;
