@@ -15,6 +15,7 @@ where one was wrong. A command that isn't built is left out.
 
 import collections
 import concurrent.futures
+import functools
 import itertools
 import os
 import random
@@ -27,6 +28,7 @@ import assemble
 import audit
 import lots
 import model
+import refusing
 import script_ends
 import session_lines
 from replies import HEAD
@@ -37,108 +39,24 @@ PROGRAM = os.path.join(ROOT, "crates", "view_main", "out", "view_main")
 # So many runs in a row without a refusal are the end: where threads race, their number differs from run to run.
 BATCH = 16
 LONGEST = 60
+# The file in which the library tells what it refused, and what the outputs hold before.
+TOLD = "told"
 OLD = b"as it was, and longer than some of what is written" * 40
 DONE, MEMORY, NOT_BUILT = (0, b""), (11, b"out of memory\n"), (12, b"not built yet\n")
-
-# Requests before its constructor ran are those of the system's loader, and are not counted.
-LIBRARY = r"""
-#define _GNU_SOURCE
-#include <dlfcn.h>
-#include <errno.h>
-#include <fcntl.h>
-#include <pthread.h>
-#include <stdatomic.h>
-#include <stdio.h>
-#include <stdlib.h>
-#include <string.h>
-#include <unistd.h>
-
-extern void *__libc_malloc(size_t), *__libc_calloc(size_t, size_t), *__libc_realloc(void *, size_t);
-extern void *__libc_memalign(size_t, size_t);
-
-static atomic_long asked;
-static atomic_int is_told;
-static long first = -1;
-static int all;
-static const char *told;
-
-__attribute__((constructor)) static void begin(void)
-{
-    const char *at = getenv("REFUSE_AT");
-    told = getenv("REFUSE_TOLD");
-    all = getenv("REFUSE_ALL") != NULL;
-    first = at ? atol(at) : -1;
-}
-
-/* Whether this request is refused; the first is told with its kind and size. */
-static int refused(const char *kind, size_t size)
-{
-    char line[64];
-    if (first < 0)
-        return 0;
-    long number = atomic_fetch_add(&asked, 1) + 1;
-    if (number != first && !(all && number > first))
-        return 0;
-    if (!atomic_exchange(&is_told, 1)) {
-        int file = open(told, O_CREAT | O_WRONLY, 0600);
-        int length = snprintf(line, sizeof line, "%s of %zu", kind, size);
-        if (write(file, line, length) != length)
-            _exit(99);
-        close(file);
-    }
-    errno = ENOMEM;
-    return 1;
-}
-
-void *malloc(size_t size) { return refused("malloc", size) ? NULL : __libc_malloc(size); }
-
-void *calloc(size_t count, size_t size) { return refused("calloc", count * size) ? NULL : __libc_calloc(count, size); }
-
-void *realloc(void *block, size_t size) { return refused("realloc", size) ? NULL : __libc_realloc(block, size); }
-
-void *memalign(size_t by, size_t size) { return refused("memalign", size) ? NULL : __libc_memalign(by, size); }
-
-void *aligned_alloc(size_t by, size_t size) { return memalign(by, size); }
-
-int posix_memalign(void **block, size_t by, size_t size)
-{
-    void *found = memalign(by, size);
-    if (found)
-        *block = found;
-    return found ? 0 : ENOMEM;
-}
-
-int pthread_create(pthread_t *thread, const pthread_attr_t *how, void *(*body)(void *), void *argument)
-{
-    static int (*next)(pthread_t *, const pthread_attr_t *, void *(*)(void *), void *);
-    if (!next)
-        next = dlsym(RTLD_NEXT, "pthread_create");
-    return refused("thread", 0) ? EAGAIN : next(thread, how, body, argument);
-}
-"""
 
 
 class Different(Exception):
     """What a run did otherwise."""
 
 
-def build(folder):
-    """The library, made of its text."""
-    source, library = os.path.join(folder, "refuse.c"), os.path.join(folder, "refuse.so")
-    with open(source, "w", encoding="ascii") as file:
-        file.write(LIBRARY)
-    try:
-        made = subprocess.run(["cc", "-O1", "-shared", "-fPIC", "-o", library, source, "-ldl", "-pthread"], capture_output=True)
-    except FileNotFoundError:
-        raise Wrong("cc is not on PATH") from None
-    if made.returncode:
-        raise Wrong(f"cc can't make the library: {made.stderr.decode('utf-8', 'replace')}")
-    return library
-
-
 # What is run.
 
 
+# The classes of the larger survey need two pages.
+SMALL, LARGE = 40, 4100
+
+
+@functools.cache
 def survey(count):
     """A file of format 7 with records in several cells, variable length records of both kinds and bytes after them."""
     lot = random.Random(count)
@@ -167,41 +85,58 @@ def script(lot, made, count):
 class Command:
     """Words over some files, and the names of those that it writes."""
 
-    def __init__(self, name, words, files, outputs):
-        self.name, self.words, self.files, self.outputs = name, words, files, outputs
-
-    def wanted(self):
-        """What the outputs hold where nothing is refused and no session races another."""
-        nodes = {name: model.Node("file", data) for name, data in self.files.items()}
-        ended = model.run([word.encode() for word in self.words], model.Desk(nodes))
-        assert ended[0] == 0
-        return {name: nodes[name].data for name in self.outputs}
+    def __init__(self, words, files, outputs):
+        self.words, self.files, self.outputs = words, files, outputs
+        nodes = {name: model.Node("file", data) for name, data in files.items()}
+        model.run([word.encode() for word in words], model.Desk(nodes))
+        # What the outputs hold with ample memory. Those of several sessions are left to the audit.
+        self.whole = {name: nodes[name].data for name in outputs}
 
 
-def commands():
-    """Each command with one worker and with four. The second survey's classes need two pages."""
-    small, made = survey(40)
-    large, many = survey(4100)
+def draw(workers):
+    view = "ortho 9 8 0 0 -4000 1 0 0 0 1 0 0 0 1 700 1 0 9000 rgb16 all show"
+    return Command(["draw", "a", "b", workers, *view.split()], {"a": survey(LARGE)[0]}, ["b"])
+
+
+def serve_one(workers):
+    data, made = survey(LARGE)
+    return Command(["serve", "a", workers, "j", "i", "o"], {"a": data, "i": script(random.Random(7), made, 20)}, ["o", "j"])
+
+
+def serve_two(workers):
+    data, made = survey(SMALL)
     lot = random.Random(7)
-    view = ["ortho", "9", "8", "0", "0", "-4000", "1", "0", "0", "0", "1", "0", "0", "0", "1", "700", "1", "0", "9000", "rgb16", "all", "show"]
-    scripts = [script(lot, made, 30) for _ in range(2)]
-    long_script = script(lot, many, 20)
-    for workers in ("1", "4"):
-        yield Command(f"draw, {workers} workers", ["draw", "a", "b", workers, *view], {"a": large}, ["b"])
-        yield Command(f"serve, {workers} workers", ["serve", "a", workers, "j", "i", "o"], {"a": large, "i": long_script}, ["o", "j"])
-        pairs = {"a": small, "i1": scripts[0], "i2": scripts[1]}
-        yield Command(f"two sessions, {workers} workers", ["serve", "a", workers, "j", "i1", "o1", "i2", "o2"], pairs, ["o1", "o2", "j"])
-        yield Command(f"trial, {workers} workers", ["trial", "5", "100", workers, "t"], {}, ["t"])
-    yield Command("info", ["info", "a", "b"], {"a": small}, ["b"])
+    files = {"a": data, "i1": script(lot, made, 30), "i2": script(lot, made, 30)}
+    return Command(["serve", "a", workers, "j", "i1", "o1", "i2", "o2"], files, ["o1", "o2", "j"])
+
+
+def trial(workers):
+    return Command(["trial", "5", "100", workers, "t"], {}, ["t"])
+
+
+def info(_):
+    return Command(["info", "a", "b"], {"a": survey(SMALL)[0]}, ["b"])
+
+
+# The commands that are run with one worker and with four.
+COMMANDS = {"draw": draw, "serve": serve_one, "two sessions": serve_two, "trial": trial}
+
+
+def commands(only):
+    """The name and the make of each command whose name begins so."""
+    found = [(f"{name}, {workers} workers", workers, make) for workers in ("1", "4") for name, make in COMMANDS.items()]
+    for name, workers, make in [("info", "1", info), *found]:
+        if name.startswith(only):
+            yield name, make(workers)
 
 
 # How a run may end.
 
 
-def check_text(command, status, files, wanted):
+def check_text(command, files):
     """A picture or text: as it was, or its first bytes, where memory was wanted."""
     (name,) = command.outputs
-    if files[name] != OLD and not wanted[name].startswith(files[name]):
+    if files[name] != OLD and not command.whole[name].startswith(files[name]):
         raise Different(f"{name} is neither as it was nor a front of what it should be")
 
 
@@ -266,7 +201,7 @@ def check_sessions(command, status, files, folder):
     raise Different(why)
 
 
-def check(command, ended, files, folder, wanted):
+def check(command, ended, files, folder):
     """Holds a run against what the guide says of its status."""
     if ended not in (DONE, MEMORY):
         raise Different(f"status {ended[0]}, {ended[1][:100]!r}")
@@ -278,8 +213,8 @@ def check(command, ended, files, folder, wanted):
     if command.words[0] == "serve" and (ended == MEMORY or len(command.outputs) > 2):
         check_sessions(command, ended[0], files, folder)
     elif ended == MEMORY:
-        check_text(command, ended[0], files, wanted)
-    elif any(files[name] != wanted[name] for name in command.outputs):
+        check_text(command, files)
+    elif any(files[name] != command.whole[name] for name in command.outputs):
         raise Different("the outputs are others than with ample memory")
 
 
@@ -292,32 +227,26 @@ def run(given, library, command, number, refuses_all):
         for name, data in (command.files | dict.fromkeys(command.outputs, OLD)).items():
             with open(os.path.join(folder, name), "wb") as file:
                 file.write(data)
-        told = os.path.join(folder, "told")
-        around = {"LD_PRELOAD": library, "REFUSE_AT": str(number), "REFUSE_TOLD": told} | ({"REFUSE_ALL": "1"} if refuses_all else {})
+        around = {"LD_PRELOAD": library, "REFUSE_AT": str(number), "REFUSE_TOLD": os.path.join(folder, TOLD)}
+        around |= {"REFUSE_ALL": "1"} if refuses_all else {}
+        how = {"cwd": folder, "env": around, "stdin": subprocess.DEVNULL, "capture_output": True, "timeout": LONGEST}
         try:
-            done = subprocess.run([given.program, *command.words], cwd=folder, env=around, stdin=subprocess.DEVNULL, capture_output=True, timeout=LONGEST)
+            done = subprocess.run([given.program, *command.words], **how)
         except subprocess.TimeoutExpired:
             return "a request", None, f"it hangs for {LONGEST} seconds"
-        ended = done.returncode, done.stderr
-        what = None
-        if os.path.exists(told):
-            with open(told, encoding="ascii") as file:
-                what = file.read()
-            os.remove(told)
-        files = {}
-        for name in os.listdir(folder):
-            with open(os.path.join(folder, name), "rb") as file:
-                files[name] = file.read()
+        files = {name: script_ends.read_bytes(os.path.join(folder, name)) for name in os.listdir(folder)}
+        what = files.pop(TOLD, b"").decode()
+        ended, fault = (done.returncode, done.stderr), None
         try:
-            check(command, ended, files, folder, command.whole)
-            if what is None and ended != DONE:
+            check(command, ended, files, folder)
+            if not what and ended != DONE:
                 raise Different(f"status {ended[0]} without a refusal")
         except Different as different:
-            return what, ended[0], str(different)
-        return what, ended[0], None
+            fault = str(different)
+        return what, ended[0], fault
 
 
-def try_command(given, library, command, refuses_all):
+def try_command(given, library, name, command, refuses_all):
     """Refuses each request of a command in turn; prints what was found, and gives how many runs were wrong."""
     tally, faults = collections.Counter(), []
     with concurrent.futures.ThreadPoolExecutor(given.jobs) as pool:
@@ -333,7 +262,7 @@ def try_command(given, library, command, refuses_all):
             if not met:
                 break
     ends = ", ".join(f"{tally[status]} with {status}" for status in sorted(tally, key=str))
-    print(f"{command.name}{', all later ones too' if refuses_all else ''}: {sum(tally.values())} places, {ends}", flush=True)
+    print(f"{name}{', all later ones too' if refuses_all else ''}: {sum(tally.values())} places, {ends}", flush=True)
     for fault in faults[: given.show]:
         print(fault)
     if len(faults) > given.show:
@@ -366,16 +295,13 @@ def main():
         raise Wrong(f"{given.program} isn't there: ./hidrevca builds it")
     folder, wrong, places = tempfile.mkdtemp(), 0, 0
     try:
-        library = build(folder)
-        for command in commands():
-            if not command.name.startswith(given.only):
-                continue
+        library = refusing.build(folder)
+        for name, command in commands(given.only):
             if not is_built(given, command):
-                print(f"{command.name}: not built yet")
+                print(f"{name}: not built yet")
                 continue
-            command.whole = command.wanted()
             for refuses_all in (False, True):
-                faults, tried = try_command(given, library, command, refuses_all)
+                faults, tried = try_command(given, library, name, command, refuses_all)
                 wrong, places = wrong + faults, places + tried
     finally:
         shutil.rmtree(folder)

@@ -70,7 +70,18 @@ WRITERS = (
     "replies.py good.replies 1 -",
 )
 # These have no input but the repository, or none at all.
-WITHOUT = ("run_guide.py", "terrain.py", "try_program.py", "try_sessions.py", "try_versions.py", "try_views.py")
+WITHOUT = (
+    "fuzz.py",
+    "refuse_memory.py",
+    "run_guide.py",
+    "soak.py",
+    "terrain.py",
+    "try_audit.py",
+    "try_program.py",
+    "try_sessions.py",
+    "try_versions.py",
+    "try_views.py",
+)
 
 
 def scripts():

@@ -50,8 +50,7 @@ int main(void)
 class Refuses(unittest.TestCase):
     def refuse(self, answer):
         """Status, standard output and standard error over a program with this answer to a refusal."""
-        command = next(command for command in refuse_memory.commands() if command.name == "info")
-        text = ",".join(map(str, command.wanted()["b"]))
+        text = ",".join(map(str, refuse_memory.info("1").whole["b"]))
         with tempfile.TemporaryDirectory() as folder:
             source, program = os.path.join(folder, "program.c"), os.path.join(folder, "program")
             with open(source, "w", encoding="ascii") as file:

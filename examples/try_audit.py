@@ -37,7 +37,7 @@ def heads(out):
 
 
 def raised(text, number):
-    """A line with one of its numbers one greater, the first of which is number 0."""
+    """A line with one of its numbers one greater, counted from 0, or from -1 backwards."""
     at = list(re.finditer(rb"[0-9]+", text))[number]
     return text[: at.start()] + b"%d" % (int(at[0]) + 1) + text[at.end() :]
 
@@ -98,7 +98,7 @@ FAULTS = {
     "a reply that stands twice": in_reply("EDITED", lambda lot, head, _: head + head),
     "the outputs of two sessions": outputs_changed,
     "bytes behind the last reply": bytes_behind,
-    "another line of the journal": in_journal(lambda lines, at: [*lines[:at], raised(lines[at], 3), *lines[at + 1 :]]),
+    "another line of the journal": in_journal(lambda lines, at: [*lines[:at], raised(lines[at], -1), *lines[at + 1 :]]),
     "a line of the journal that is left out": in_journal(lambda lines, at: lines[:at] + lines[at + 1 :]),
     "a line of the journal that stands twice": in_journal(lambda lines, at: lines[: at + 1] + lines[at:]),
     "two lines of the journal": in_journal(lambda lines, at: [*lines[:at], lines[at + 1], lines[at], *lines[at + 2 :]]),
