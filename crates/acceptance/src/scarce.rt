@@ -1,6 +1,6 @@
 ghost use Rattle.std.specs.Prelude.{◌-◌, ◌^◌, true};
 
-use crate::desks::{command, fill, holds};
+use crate::desks::{File, command, fill, holds};
 use crate::host::Host;
 use crate::plain::{ONE, plain};
 use crate::racing::SERVE_TWO;
@@ -76,41 +76,52 @@ fn finished(rt: &impl Abort, ended: &Ended, journal: Reason) {
     entries_by(rt, &ended.told.history, 1, b"EPU");
 }
 
-/// Serves over a desk that has no memory to keep the file of this name, and gives the desk.
+/// Serves over a desk that has no memory to keep the file of this name, which has to leave these.
 fn serves(
     rt: &impl Host,
     alloc: Global,
     line: &str,
     name: &str,
     journal: Reason,
-) -> Result<StillDesk, Fail> {
+    files: &[File],
+) -> Result<(), Fail> {
     let mut inner = StillDesk::new(alloc);
     prepare(alloc, &mut inner)?;
     let mut desk = Scarce { inner, name };
     let ended = command(rt, alloc, &mut desk, line)?;
     finished(rt, &ended, journal);
-    let Scarce { inner, .. } = desk;
-    Ok(inner)
+    holds(rt, &desk.inner, files, name);
+    Ok(())
 }
 
 /// Serves one session whose output, and then whose journal, can't be kept for want of memory.
 fn one_serves(rt: &impl Host, alloc: Global, all: &[u8]) -> Result<(), Fail> {
-    let desk = serves(rt, alloc, SERVE, "o", Reason::Finished)?;
-    holds(rt, &desk, &[("j", LINE)], "o");
-    let desk = serves(rt, alloc, SERVE, "j", Reason::Memory)?;
-    holds(rt, &desk, &[("o", all)], "j");
-    Ok(())
+    let (journal, out): (File, File) = (("j", LINE), ("o", all));
+    serves(rt, alloc, SERVE, "o", Reason::Finished, &[journal])?;
+    serves(rt, alloc, SERVE, "j", Reason::Memory, &[out])
 }
 
 /// Serves two sessions, of which one's output, and then whose journal, can't be kept.
 fn two_serve(rt: &impl Host, alloc: Global, all: &[u8]) -> Result<(), Fail> {
-    let desk = serves(rt, alloc, SERVE_TWO, "o1", Reason::Finished)?;
-    holds(rt, &desk, &[("o2", REFUSED), ("j", LINE)], "o1");
-    let desk = serves(rt, alloc, SERVE_TWO, "o2", Reason::Finished)?;
-    holds(rt, &desk, &[("o1", all), ("j", LINE)], "o2");
-    let desk = serves(rt, alloc, SERVE_TWO, "j", Reason::Memory)?;
-    holds(rt, &desk, &[("o1", all), ("o2", REFUSED)], "j");
-    Ok(())
+    let (journal, one): (File, File) = (("j", LINE), ("o1", all));
+    let two: File = ("o2", REFUSED);
+    serves(
+        rt,
+        alloc,
+        SERVE_TWO,
+        "o1",
+        Reason::Finished,
+        &[two, journal],
+    )?;
+    serves(
+        rt,
+        alloc,
+        SERVE_TWO,
+        "o2",
+        Reason::Finished,
+        &[one, journal],
+    )?;
+    serves(rt, alloc, SERVE_TWO, "j", Reason::Memory, &[one, two])
 }
 
 #[test]
