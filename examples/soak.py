@@ -119,9 +119,10 @@ def look(process, workers, editors, viewers, seconds):
     begun, looks = time.monotonic(), []
     while any(worker.is_alive() for worker in workers):
         time.sleep(min(1.0, seconds / 100))
-        # A program that went away is told by its sessions.
-        if process.poll() is None:
-            looks.append((time.monotonic() - begun, entries(editors, viewers), memory_of(process.pid)))
+        seen = time.monotonic() - begun, entries(editors, viewers), memory_of(process.pid)
+        # Once the last input ended the program may be on its way out, and give its memory back.
+        if any(worker.is_alive() for worker in workers):
+            looks.append(seen)
     return looks
 
 
