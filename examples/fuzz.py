@@ -8,8 +8,8 @@ damaged, in words that mostly fit, over files, links, folders, full devices and 
 do is worked out by model.py: its status, its line on standard error, what it prints, and what every file holds
 afterwards, byte by byte. Of several sessions, which race, audit.py looks at each reply and the journal.
 
-The cases are the same for the same seed. It runs as many as are told, or for as many seconds; with --jobs
-several processes share them. Ends with 1 at the first difference: it prints seed and number of the case, which
+The cases are the same for the same seed. It runs as many as are told, or for as many seconds, or until an interrupt;
+with --jobs several processes share them. Ends with 1 at the first difference: it prints seed and number of the case, which
 `--seed S --first N --cases 1` runs again, and keeps its files. A trial that isn't built is counted and left out.
 """
 
@@ -33,8 +33,8 @@ from script_ends import Words, Wrong
 
 ROOT = os.path.dirname(os.path.dirname(os.path.realpath(__file__)))
 PROGRAM = os.path.join(ROOT, "crates", "view_main", "out", "view_main")
-# Seconds after which a run hangs, and cases between two looks at the clock.
-LONGEST, BATCH = 60, 50
+# Seconds after which a run hangs.
+LONGEST = 60
 PRINTED, TOLD, GIVEN = "printed", "told", "given"
 NOT_BUILT = (12, "not built yet")
 
@@ -174,23 +174,24 @@ def try_case(program, folder, case, tally):
     tally["replies"] += sum(len(items) for _, _, items, _ in known.pairs) if known else 0
 
 
-def numbers(given, job):
-    """The numbers of the cases of one job, as long as there is time."""
+def numbers(given, job, stop):
+    """The numbers of the cases of one job, as long as there is time and nobody says stop."""
     begun, number = time.monotonic(), given.first + job
     while given.cases is None or number < given.first + given.cases:
-        if given.seconds and number // given.jobs % BATCH == 0 and time.monotonic() - begun > given.seconds:
+        if stop.is_set() or given.seconds and time.monotonic() - begun > given.seconds:
             return
         yield number
         number += given.jobs
 
 
-def work(given, job, answers):
+def work(given, job, stop, answers):
     """Tries the cases of one job, and gives the tally, and what differs in which case and folder if anything."""
+    # An interrupt is for the first process, which says stop.
     signal.signal(signal.SIGINT, signal.SIG_IGN)
     signal.signal(signal.SIGTERM, lambda *_: sys.exit(1))
     tally, folder, fault, number = collections.Counter(), tempfile.mkdtemp(prefix="fuzz"), None, given.first
     try:
-        for number in numbers(given, job):
+        for number in numbers(given, job, stop):
             case = fuzz_cases.case(random.Random(f"{given.seed} {number}"))
             try_case(given.program, folder, case, tally)
     except Exception as differs:  # What the model itself can't do is told with its case too.
@@ -245,10 +246,12 @@ def main():
     given.program = os.path.abspath(given.program)
     if not os.path.exists(given.program):
         raise Wrong(f"{given.program} isn't there: ./hidrevca builds it")
-    begun, answers = time.monotonic(), multiprocessing.Queue()
-    children = [multiprocessing.Process(target=work, args=(given, job, answers)) for job in range(given.jobs)]
+    begun, answers, stop = time.monotonic(), multiprocessing.Queue(), multiprocessing.Event()
+    children = [multiprocessing.Process(target=work, args=(given, job, stop, answers)) for job in range(given.jobs)]
     for child in children:
         child.start()
+    for number in (signal.SIGINT, signal.SIGTERM):
+        signal.signal(number, lambda *_: stop.set())
     try:
         total, fault = total_of(answers, children)
     finally:

@@ -30,7 +30,7 @@ class Case:
 
 def length_of(lot):
     """Mostly short, some long: a block has at most 1024 records, and a page of classes 4096."""
-    if lot.random() < 0.01:
+    if lot.random() < 0.005:
         return lot.choice((1023, 1024, 1025, 1400, 2100, 4097))
     return lot.choice((0, 1, 1, 2, 3, 5, 8, 13, 30, lot.randint(0, 60)))
 
@@ -153,15 +153,15 @@ def script(lot, made, most):
     return text
 
 
-def nodes_of(lot, made, data):
-    """Files: the survey `a`, scripts, older outputs, a folder, and other names that lead to some of them."""
+def nodes_of(lot, made, data, scripts):
+    """Files: the survey `a`, so many scripts, older outputs, a folder, and other names that lead to some of them."""
     nodes = {name: Node("file", lot.choice(OLD)) for name in ("b", "o1", "o2", "o3", "j") if lot.random() < 0.5}
     nodes |= {"a": Node("file", data), "folder": Node("folder"), ".": Node("folder")}
     nodes |= {"/dev/full": Node("full"), "/dev/./full": Node("full"), "/dev/null": Node("device")}
-    nodes |= {f"i{at}": Node("file", script(lot, made, 14)) for at in (1, 2, 3)}
+    nodes |= {f"i{at}": Node("file", script(lot, made, 14)) for at in range(1, scripts + 1)}
     for link in ("link", "other"):
         if lot.random() < 0.2:
-            nodes[link] = nodes[lot.choice(("a", "i1", *(name for name in ("b", "o1", "j") if name in nodes)))]
+            nodes[link] = nodes[lot.choice([name for name in ("a", "i1", "b", "o1", "j") if name in nodes])]
     return nodes
 
 
@@ -194,15 +194,17 @@ def command(lot, made):
 def case(lot):
     """One run."""
     data, made = survey(lot)
-    nodes = nodes_of(lot, made, damaged(lot, data))
-    words = changed_names(lot, command(lot, made))
+    words = command(lot, made)
+    # The sessions of a serve are the pairs behind its first four words.
+    nodes = nodes_of(lot, made, damaged(lot, data), max(0, len(words) - 4) // 2 if words[0] == "serve" else 0)
+    words = changed_names(lot, words)
     if lot.random() < 0.25:
         words = mutated(lot, words)
         # What is read to its end must have one.
         words = ["none" if plain(word).startswith("/dev/") and word != "/dev/null" else word for word in words]
     stdin = b""
     if bad_word(words) is None and "-" in words:
-        stdin = nodes["a"].data if words[1] == "-" else nodes["i1"].data
+        stdin = nodes["a"].data if words[1] == "-" or "i1" not in nodes else nodes["i1"].data
     words = [word.encode() for word in words]
     if lot.random() < 0.005:
         words.insert(lot.randint(0, len(words)), b"\xff")
