@@ -47,6 +47,8 @@ mod scarce;
 #[cfg(test)]
 mod serving;
 #[cfg(test)]
+mod short;
+#[cfg(test)]
 mod sides;
 #[cfg(test)]
 mod sixteen;
