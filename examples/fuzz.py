@@ -34,7 +34,7 @@ from script_ends import Words, Wrong
 ROOT = os.path.dirname(os.path.dirname(os.path.realpath(__file__)))
 PROGRAM = os.path.join(ROOT, "crates", "view_main", "out", "view_main")
 # Seconds after which a run hangs.
-LONGEST = 60
+LONGEST = 300
 PRINTED, TOLD, GIVEN = "printed", "told", "given"
 NOT_BUILT = (12, "not built yet")
 

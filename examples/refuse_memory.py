@@ -38,7 +38,7 @@ ROOT = os.path.dirname(os.path.dirname(os.path.realpath(__file__)))
 PROGRAM = os.path.join(ROOT, "crates", "view_main", "out", "view_main")
 # So many runs in a row without a refusal are the end: where threads race, their number differs from run to run.
 BATCH = 16
-LONGEST = 60
+LONGEST = 300
 # The file in which the library tells what it refused, and what the outputs hold before.
 TOLD = "told"
 OLD = b"as it was, and longer than some of what is written" * 40

@@ -1,3 +1,4 @@
+use crate::desks::{File, leaves};
 use crate::host::Host;
 use crate::leaving::refuses;
 use crate::parts::parts;
@@ -7,6 +8,8 @@ use las_survey::{HeaderFault, SurveyFault};
 use std::alloc::Global;
 use std::test::Fail;
 use view_base::{Bytes, OutOfMemory};
+use view_commands::Status;
+use view_ends::StillDesk;
 
 /// What is wrong with the first bytes, so many, of the file with all parts: it is cut within its
 /// header, its variable length record, its points, or its extended record.
@@ -27,9 +30,28 @@ fn fault_of(have: usize) -> SurveyFault {
     SurveyFault::Evlr { k: 0, at: 557 }
 }
 
-/// Each front of the file that is no survey.
+/// What the text's file holds before.
+const BEFORE: File = ("a.txt", b"as it was");
+
+/// An `info` of these bytes has to tell of this fault, and to leave the text's file.
+fn info_refuses(
+    rt: &impl Host,
+    alloc: Global,
+    front: &[u8],
+    fault: SurveyFault,
+) -> Result<(), Fail> {
+    let files: [File; 2] = [("a.las", front), BEFORE];
+    let status = Status::Survey(fault);
+    leaves::<StillDesk>(rt, alloc, "info a.las a.txt", &files, status, &files)
+}
+
+/// Each front of the file that is no survey; and the first and the last of each fault under every
+/// command.
 fn refuses_each_front(rt: &impl Host, alloc: Global, file: &[u8]) -> Result<(), Fail> {
     for have in 0..621 {
+        info_refuses(rt, alloc, file.get(..have).unwrap_or(file), fault_of(have))?;
+    }
+    for have in [0, 374, 375, 436, 437, 556, 557, 620] {
         refuses(rt, alloc, file.get(..have).unwrap_or(file), fault_of(have))?;
     }
     Ok(())

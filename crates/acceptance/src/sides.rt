@@ -247,23 +247,57 @@ fn late_ones(rt: &impl Host, alloc: Global, side: Side, all: &[u8]) -> Result<()
     Ok(())
 }
 
-/// Serves with each call of one session that can fail, at each place.
-fn each_fails(rt: &impl Host, alloc: Global, side: Side, all: &[u8]) -> Result<(), Fail> {
+/// The replies to the whole script.
+fn replies(alloc: Global) -> Result<Vec<u8>, Fail> {
+    then_file(alloc, b"EDITED 1 1\nFILE 1 395\n", 6)
+}
+
+/// Serves with a read of one session that fails at each place of its script.
+fn reads_fail(rt: &impl Host, alloc: Global, side: Side, all: &[u8]) -> Result<(), Fail> {
     for at in 0..SAVING.len() {
         read_fails(rt, alloc, side, at, all)?;
     }
-    read_fails(rt, alloc, side, SAVING.len(), all)?;
-    for at in 0..all.len() {
-        write_fails(rt, alloc, side, at, all)?;
-    }
-    late_ones(rt, alloc, side, all)
+    read_fails(rt, alloc, side, SAVING.len(), all)
 }
 
 #[test]
-fn a_call_of_one_session_that_fails_anywhere_leaves_the_other(rt: HostRuntime) -> Result<(), Fail> {
-    let all = then_file(rt.alloc(), b"EDITED 1 1\nFILE 1 395\n", 6)?;
+fn a_read_of_one_session_that_fails_anywhere_leaves_the_other(rt: HostRuntime) -> Result<(), Fail> {
+    let all = replies(rt.alloc())?;
     for side in SIDES {
-        each_fails(&rt, rt.alloc(), side, &all)?;
+        reads_fail(&rt, rt.alloc(), side, &all)?;
+    }
+    Ok(())
+}
+
+/// Serves with a write of one session that fails at each place of its output.
+fn writes_fail(rt: &impl Host, alloc: Global, side: Side, all: &[u8]) -> Result<(), Fail> {
+    for at in 0..all.len() {
+        write_fails(rt, alloc, side, at, all)?;
+    }
+    Ok(())
+}
+
+#[test]
+fn a_write_of_the_first_session_that_fails_anywhere_leaves_the_other(
+    rt: HostRuntime,
+) -> Result<(), Fail> {
+    writes_fail(&rt, rt.alloc(), SIDES[0], &replies(rt.alloc())?)
+}
+
+#[test]
+fn a_write_of_the_second_session_that_fails_anywhere_leaves_the_other(
+    rt: HostRuntime,
+) -> Result<(), Fail> {
+    writes_fail(&rt, rt.alloc(), SIDES[1], &replies(rt.alloc())?)
+}
+
+#[test]
+fn a_keeping_or_a_journal_that_fails_comes_after_both_sessions(
+    rt: HostRuntime,
+) -> Result<(), Fail> {
+    let all = replies(rt.alloc())?;
+    for side in SIDES {
+        late_ones(&rt, rt.alloc(), side, &all)?;
     }
     Ok(())
 }
