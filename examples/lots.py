@@ -44,7 +44,7 @@ def point(lots, form, size):
 def record(lots, form, length, made):
     """The bytes of a record, of which those that aren't read are drawn by lot."""
     extended, has_time, *_ = assemble.FORMATS[form]
-    data = bytearray(lots.getrandbits(8) for _ in range(length))
+    data = bytearray(lots.randbytes(length))
     struct.pack_into("<3iH", data, 0, *made.place, made.intensity)
     if extended:
         data[15:17] = data[15] & 0xFB | made.withheld << 2, made.kind

@@ -71,8 +71,21 @@ WRITERS = (
     "trial_sum.py 5 0",
 )
 # These have no input but the repository, or none at all.
-WITHOUT = ("run_guide.py", "terrain.py", "trial_sum.py", "try_headline.py", "try_program.py")
-WITHOUT += ("try_sessions.py", "try_trials.py", "try_versions.py", "try_views.py")
+WITHOUT = (
+    "fuzz.py",
+    "refuse_memory.py",
+    "run_guide.py",
+    "soak.py",
+    "terrain.py",
+    "trial_sum.py",
+    "try_audit.py",
+    "try_headline.py",
+    "try_program.py",
+    "try_sessions.py",
+    "try_trials.py",
+    "try_versions.py",
+    "try_views.py",
+)
 
 
 def scripts():
