@@ -1,5 +1,5 @@
 # What the launcher adds to the program: help, the version, and the line that says what a word is.
-# It stands on `root`, `program` and `say` of the launcher.
+# It stands on `root`, `program` and `say` of the launcher, and on `words` of running.bash.
 # shellcheck disable=SC2154
 
 help_folder=$root/launcher/help
@@ -100,7 +100,16 @@ names_differ() {
   done
 }
 
-# Whether the words are those of a line that is built. Where it says no the program mostly ends at once.
+# Whether a word is a number from 0 to 2^64 - 1.
+is_start() {
+  local LC_ALL=C
+  [[ $1 =~ ^-?0{1,20}$ || $1 =~ ^[0-9]{1,20}$ ]] || return 1
+  # Where both have 20 digits the order of characters is that of numbers.
+  # shellcheck disable=SC2071
+  [[ ${#1} -lt 20 || ! $1 > 18446744073709551615 ]]
+}
+
+# Whether the words are those of a line. Where it says no the program mostly ends at once.
 looks_right() {
   local workers='^0{0,18}([1-9]|[1-5][0-9]|6[0-4])$' number='^-?[0-9]{1,20}$' word
   for word; do is_utf8 "$word" && [ -n "$word" ] || return 1; done
@@ -115,6 +124,7 @@ looks_right() {
     serve:*)
       (($# >= 6 && $# <= 36 && $# % 2 == 0)) && [[ $3 =~ $workers ]] && names_differ "$@"
       ;;
+    trial:5) is_start "$2" && [[ $3 =~ $number && $4 =~ $workers ]] && lies_between "$3" 0 8388608 ;;
     *) return 1 ;;
   esac
 }
@@ -227,9 +237,13 @@ foresee_colour() {
   esac
 }
 
-# What can be seen of a built line before it runs, in the order in which the program opens its files.
+# What can be seen of a line before it runs, in the order in which the program opens its files.
 foresee() {
   local at opened=(1) written=()
+  if [ "$1" = trial ]; then
+    foresee_write "$5" 4
+    return
+  fi
   foresee_read "$2" 1
   foresee_survey "$2"
   if [ "$1" = serve ]; then
@@ -274,14 +288,15 @@ explain_word() {
   line=$(place_line "${words[0]}" "$at")
   label=${line%% *}
   if [ "$at" -eq 0 ]; then
-    echo "word 0 is $(quoted "$word"): no command; the commands are draw, info and serve"
+    echo "word 0 is $(quoted "$word"): no command; the commands are draw, info, serve and trial"
   elif [ -z "$line" ]; then
     echo "word $at is $(quoted "$word"): the words of ${words[0]} end before it"
   else
     for ((other = 1; other < at && ${#word}; other++)); do
       if [ "${words[other]}" != "$word" ] || [ -z "$(way "$label")" ]; then continue; fi
       earlier=$(place_line "${words[0]}" "$other")
-      if [ "$word" = - ] && [ "$(way "${earlier%% *}")" != "$(way "$label")" ]; then continue; fi
+      earlier=$(way "${earlier%% *}")
+      if [ -z "$earlier" ] || { [ "$word" = - ] && [ "$earlier" != "$(way "$label")" ]; }; then continue; fi
       echo "word $at is $(quoted "$word"), as word $other is"
       return
     done
@@ -298,13 +313,6 @@ explain_number() {
   fi
 }
 
-# Says which of the words that fit asks for what isn't built.
-explain_unbuilt() {
-  case ${words[0]} in
-    trial) echo "word 0 is 'trial', which isn't built" ;;
-  esac
-}
-
 # The further line for a status, or none.
 explain() {
   local status=$1 told fault statuses at what
@@ -315,7 +323,6 @@ explain() {
     if [[ $told =~ ^camera\ number\ ([0-9]{1,2})\ is\ out\ of\ range: ]]; then explain_number "${BASH_REMATCH[1]}"; fi
     return
   fi
-  if [ "$status" -eq 12 ]; then explain_unbuilt; fi
   for fault in "${faults[@]}"; do
     statuses=${fault%%|*} fault=${fault#*|}
     at=${fault%%|*} what=${fault#*|}
@@ -324,78 +331,4 @@ explain() {
       return
     fi
   done
-}
-
-# Hands a signal on to the program, or takes it where there is none yet.
-pass() {
-  if [ -n "$child" ]; then
-    kill -s "$1" "$child" 2>/dev/null
-  else
-    trap - "$1"
-    kill -s "$1" $$
-  fi
-}
-
-# Ends by the signal that ended the program.
-end_by() {
-  local signal kill
-  signal=$(kill -l "$1" 2>/dev/null) || exit "$1"
-  ulimit -c 0
-  # bash itself doesn't end by QUIT.
-  if [ "$signal" = QUIT ] && kill=$(type -P kill); then exec "$kill" -QUIT $$; fi
-  trap - "$signal"
-  kill -s "$signal" $$
-  exit "$1"
-}
-
-# Runs the program as a child that has the streams and the signals as they are here, and ends as it ended.
-# A stop of this shell alone isn't handed on.
-run_and_explain() {
-  local signals=(HUP INT QUIT USR1 USR2 ALRM TERM) signal errors input status='' tick parent=()
-  child=''
-  # Where this launcher is killed, the program goes too.
-  if command -v setpriv >/dev/null; then parent=(setpriv --pdeathsig KILL --); fi
-  # shellcheck disable=SC2064
-  for signal in "${signals[@]}"; do trap "pass $signal" "$signal"; done
-  # Without a redirection of its own a child behind & would have no standard input.
-  if [ -e /dev/fd/0 ]; then exec {input}<&0; else input=-; fi
-  (
-    trap - "${signals[@]}"
-    if [ "$input" = - ]; then exec "${parent[@]}" "$program" "$@"; fi
-    exec "${parent[@]}" "$program" "$@" {input}<&-
-  ) <&"$input" &
-  child=$!
-  # An end that the program closes has no other holder here.
-  exec {errors}>&2 2>/dev/null </dev/null >/dev/null
-  if [ "$input" != - ]; then exec {input}<&-; fi
-  # bash doesn't see a signal that comes just before it waits, so it looks up each second.
-  while [ -z "$status" ]; do
-    sleep 1 {errors}>&- &
-    tick=$!
-    wait -n "$child" "$tick"
-    kill "$tick"
-    if ! kill -0 "$child"; then
-      wait "$child"
-      status=$?
-    fi
-  done
-  if [ "$status" -gt 128 ]; then end_by "$status"; fi
-  for signal in "${signals[@]}"; do trap - "$signal"; done
-  exec 2>&"$errors"
-  if [ "$status" -ne 0 ]; then explain "$status" >&2; fi
-  if [ ${#words[@]} -eq 0 ]; then (show_help commands >&2); fi
-  exit "$status"
-}
-
-# Runs the program in the place of this shell, so that nothing stands between, unless what can be seen of
-# the words beforehand says that it will refuse one of them.
-run() {
-  words=("$@")
-  if looks_right "$@"; then
-    foresee "$@"
-    if [ ${#faults[@]} -eq 0 ]; then exec "$program" "$@"; fi
-  fi
-  # With standard error closed nothing can be said.
-  if [ ! -e /dev/fd/2 ]; then exec "$program" "$@"; fi
-  run_and_explain "$@"
 }

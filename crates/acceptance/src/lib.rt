@@ -25,6 +25,8 @@ mod host;
 #[cfg(test)]
 mod leaving;
 #[cfg(test)]
+mod made;
+#[cfg(test)]
 mod older;
 #[cfg(test)]
 mod pairs;
@@ -44,6 +46,8 @@ mod serving;
 mod sixteen;
 #[cfg(test)]
 mod telling;
+#[cfg(test)]
+mod trials;
 #[cfg(test)]
 mod views;
 #[cfg(test)]

@@ -45,7 +45,7 @@ pub(crate) fn append_all(bytes: &mut Bytes, pieces: &[&[u8]]) -> Result<(), OutO
 }
 
 /// Appends a public header block of 375 bytes.
-fn append_header(
+pub(crate) fn append_header(
     bytes: &mut Bytes,
     points_at: u32,
     vlrs: u32,

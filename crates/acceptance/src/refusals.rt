@@ -79,8 +79,7 @@ fn refuses_words(rt: &impl Host, alloc: Global, survey: &[u8]) -> Result<(), Fai
     Ok(())
 }
 
-/// Refusals of cameras out of range before those of colours that a format has not, and of words
-/// that fit and ask for what is not built.
+/// Refusals of cameras out of range before those of colours that a format has not.
 fn refuses_views(rt: &impl Host, alloc: Global, survey: &[u8]) -> Result<(), Fail> {
     let wide = CameraLimit {
         place: 1,
@@ -95,7 +94,6 @@ fn refuses_views(rt: &impl Host, alloc: Global, survey: &[u8]) -> Result<(), Fai
         value: 16777216,
     };
     for (line, status, exit) in [
-        ("trial 5 100 2 t", Status::NotYet, 12),
         (
             "draw a.las a.ppm 1 ortho 1 1 0 0 0 1 0 0 0 1 0 0 0 1 1 1 0 10 rgb16 all show",
             Status::NoColour { format: 0 },
@@ -208,7 +206,6 @@ fn each_status_has_its_text(rt: HostRuntime) -> Result<(), Fail> {
             "session input of word 4 is too long",
         ),
         (Status::Memory, "out of memory"),
-        (Status::NotYet, "not built yet"),
     ] {
         has_text(&rt, rt.alloc(), status, text)?;
     }
