@@ -77,20 +77,22 @@ def view(words, form):
     numbers, passing = numbers_of(words[1:19]), filter_of(words[20:])
     if numbers is None or passing is None:
         return Refused(1)
-    if not is_camera(words[0], numbers):
+    if out_of_range(words[0], numbers):
         return Refused(2)
     if words[19].startswith("rgb") and form not in RED:
         return Refused(3)
     return View(words[0], tuple(numbers), words[19], *passing)
 
 
-def is_camera(kind, numbers):
-    """Whether each number is in its range."""
+def out_of_range(kind, numbers):
+    """The place from 1 and the value of the first number of a camera that is out of its range, or none."""
     near = (int(kind == "persp"), DEEPEST)
     ranges = [(1, 4096)] * 2 + [(LEAST, GREATEST)] * 3 + [PARTS] * 9
-    ranges += [(1, SCALES[kind]), (1, SCALES["ortho"]), near, (numbers[16], DEEPEST)]
-    in_range = all(low <= number <= high for number, (low, high) in zip(numbers, ranges))
-    return in_range and numbers[0] * numbers[1] <= MOST_PIXELS
+    ranges += [(1, SCALES[kind]), (1, SCALES["ortho"]), near, (numbers[16], DEEPEST), (1, MOST_PIXELS)]
+    for place, (number, (low, high)) in enumerate(zip((*numbers, numbers[0] * numbers[1]), ranges), 1):
+        if not low <= number <= high:
+            return place, number
+    return None
 
 
 def greatest_class(form):

@@ -9,6 +9,8 @@ mod arriving;
 #[cfg(test)]
 mod breaking;
 #[cfg(test)]
+mod damaged;
+#[cfg(test)]
 mod desks;
 #[cfg(test)]
 mod dialogue;
@@ -24,6 +26,8 @@ mod full;
 mod host;
 #[cfg(test)]
 mod leaving;
+#[cfg(test)]
+mod lines;
 #[cfg(test)]
 mod made;
 #[cfg(test)]
@@ -41,7 +45,11 @@ mod refusals;
 #[cfg(test)]
 mod same;
 #[cfg(test)]
+mod scarce;
+#[cfg(test)]
 mod serving;
+#[cfg(test)]
+mod sides;
 #[cfg(test)]
 mod sixteen;
 #[cfg(test)]
