@@ -3,7 +3,7 @@ use std::alloc::Global;
 use std::test::Fail;
 use test_desks::{
     CLASS_6, Call, File, Host, ONE, SERVE, Shelf, command, command_ended, entries_are, fill, holds,
-    joined, plain, same, session_ended, then_file,
+    holds_after, joined, plain, refused, session_ended, then_file,
 };
 use view_commands::{Ended, Status};
 use view_ends::{DeskCall, MemDesk};
@@ -51,16 +51,8 @@ fn broken(
     let mut desk = MemDesk::empty(alloc);
     prepare(alloc, &mut desk, script, call)?;
     let ended = command(rt, alloc, &mut desk, SERVE)?;
-    holds(&desk, after, call.0)?;
-    let unkept = u64::from(call.1 == DeskCall::Keep);
-    same(&desk.unkept(call.0), &unkept, call.0)?;
+    holds_after(&desk, call, after)?;
     Ok(ended)
-}
-
-/// No session may have run.
-fn never_ran(ended: &Ended) -> Result<(), Fail> {
-    let told = [ended.told.sessions.len(), ended.told.history.len()];
-    same(&told, &[0, 0], "sessions and entries")
 }
 
 /// Serves with an opening that fails, of the word at this place.
@@ -72,8 +64,9 @@ fn opening_fails(
     out: &[u8],
 ) -> Result<(), Fail> {
     let ended = broken(rt, alloc, SAVING, call, &[("o", out), ("j", BEFORE)])?;
-    command_ended(&ended, Status::OpenFault { at }, Reason::Finished)?;
-    never_ran(&ended)
+    let status = Status::OpenFault { at };
+    command_ended(&ended, status, Reason::Finished)?;
+    refused(&ended, call.0, status)
 }
 
 #[test]
@@ -240,12 +233,17 @@ fn prepare_count(alloc: Global, desk: &mut MemDesk) -> Result<(), Fail> {
     Ok(desk.fail("i", DeskCall::Take, 15)?)
 }
 
+/// The session has to have counted, and then to have failed.
+fn counted(ended: &Ended) -> Result<(), Fail> {
+    command_ended(ended, Status::ReadFault { at: 4 }, Reason::Finished)?;
+    session_ended(ended, Reason::ReadFault, 15, &[0])
+}
+
 #[test]
 fn a_count_is_answered_before_a_read_that_fails(rt: HostRuntime) -> Result<(), Fail> {
     let mut desk = MemDesk::empty(rt.alloc());
     prepare_count(rt.alloc(), &mut desk)?;
     let ended = command(&rt, rt.alloc(), &mut desk, SERVE)?;
-    holds(&desk, &[("o", b"COUNT 0 1\n"), ("j", b"")], "a count")?;
-    command_ended(&ended, Status::ReadFault { at: 4 }, Reason::Finished)?;
-    session_ended(&ended, Reason::ReadFault, 15, &[0])
+    counted(&ended)?;
+    holds(&desk, &[("o", b"COUNT 0 1\n"), ("j", b"")], "a count")
 }

@@ -3,7 +3,7 @@ use std::alloc::Global;
 use std::test::Fail;
 use test_desks::{
     Call, Host, ONE, SERVE_TWO, Shelf, VIEW, VIEWED, command, command_ended, end_is, entries_by,
-    fill, holds, plain, plan, refused, same,
+    fill, holds, holds_after, plain, plan, refused, same,
 };
 use view_commands::{Ended, Status};
 use view_ends::{DeskCall, MemDesk};
@@ -93,6 +93,7 @@ fn an_opening_of_the_second_pair_that_fails_runs_no_session(rt: HostRuntime) -> 
 /// The first session has to have failed within the reply to its view, and the second to have
 /// counted: version 0 is held alone, without pins.
 fn failed_beside_a_count(ended: &Ended) -> Result<(), Fail> {
+    command_ended(ended, Status::WriteFault { at: 5 }, Reason::Finished)?;
     let told = &ended.told;
     let taken = [VIEW.len() as u64, COUNT.len() as u64];
     end_is(&told.sessions, 0, Reason::WriteFault, taken[0], &[0])?;
@@ -107,13 +108,14 @@ fn a_session_that_fails_leaves_the_other_as_it_is(rt: HostRuntime) -> Result<(),
     let mut desk = MemDesk::empty(rt.alloc());
     let call: Call = ("o1", DeskCall::Give, 20);
     let ended = served(&rt, rt.alloc(), &mut desk, [VIEW, COUNT], &[call])?;
-    command_ended(&ended, Status::WriteFault { at: 5 }, Reason::Finished)?;
     failed_beside_a_count(&ended)?;
     left(&desk, [&VIEWED[..20], COUNTED, NONE], "a view that fails")
 }
 
-/// Both sessions have to have ended well, the second with the first edit.
+/// Both sessions have to have ended well, the second with the first edit, and the command by the first
+/// output.
 fn ended_well(ended: &Ended) -> Result<(), Fail> {
+    command_ended(ended, Status::WriteFault { at: 5 }, Reason::Finished)?;
     let told = &ended.told;
     same(&told.sessions.len(), &2, "sessions")?;
     for end in told.sessions.as_slice() {
@@ -128,10 +130,8 @@ fn an_output_that_is_not_kept_leaves_the_files_after_it(rt: HostRuntime) -> Resu
     let mut desk = MemDesk::empty(rt.alloc());
     let call: Call = ("o1", DeskCall::Keep, 0);
     let ended = served(&rt, rt.alloc(), &mut desk, [VIEW, EDIT], &[call])?;
-    command_ended(&ended, Status::WriteFault { at: 5 }, Reason::Finished)?;
     ended_well(&ended)?;
-    holds(&desk, &[("o2", EDITED), ("j", EDIT)], "not kept")?;
-    same(&desk.unkept("o1"), &1, "not kept")
+    holds_after(&desk, call, &[("o2", EDITED), ("j", EDIT)])
 }
 
 /// Serves a view and an edit with calls that are to fail: the command has to end with this status,

@@ -3,7 +3,7 @@ use std::alloc::Global;
 use std::test::Fail;
 use test_desks::{
     Call, File, Host, ONE, SERVE_TWO, Shelf, command, command_ended, end_is, entries_by, fill,
-    holds, plain, plan, refused, same, then_file,
+    holds, holds_after, plain, plan, refused, same, then_file,
 };
 use view_commands::{Ended, Status};
 use view_ends::{DeskCall, MemDesk};
@@ -126,6 +126,12 @@ fn side_ended(ended: &Ended, side: Side, ending: Ending) -> Result<(), Fail> {
     entries_by(&ended.told.history, side.who, entries)
 }
 
+/// The session with the call that fails has to have ended so, and the other one to have finished.
+fn both_ended(desk: &MemDesk, ended: &Ended, side: Side, ending: Ending) -> Result<(), Fail> {
+    side_ended(ended, side, ending)?;
+    other_finished(desk, ended, side, ending.marks.len())
+}
+
 /// Serves both sessions with one call that is to fail: it has to end so and to leave these files,
 /// and the other session has to finish.
 fn fails(
@@ -139,11 +145,8 @@ fn fails(
     let mut desk = MemDesk::empty(alloc);
     prepare(alloc, &mut desk, side, call)?;
     let ended = command(rt, alloc, &mut desk, SERVE_TWO)?;
-    side_ended(&ended, side, ending)?;
-    other_finished(&desk, &ended, side, ending.marks.len())?;
-    holds(&desk, files, call.0)?;
-    let unkept = u64::from(call.1 == DeskCall::Keep);
-    same(&desk.unkept(call.0), &unkept, call.0)
+    both_ended(&desk, &ended, side, ending)?;
+    holds_after(&desk, call, files)
 }
 
 /// Serves with a read that fails once so many bytes of the script were taken.

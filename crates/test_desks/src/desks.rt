@@ -81,3 +81,12 @@ pub fn holds(desk: &impl Shelf, files: &[File], told: &str) -> Result<(), Fail> 
     }
     Ok(())
 }
+
+/// The desk has to hold these files after a call that was to fail, whose own file has to be unkept
+/// where its keeping was to fail.
+pub fn holds_after(desk: &MemDesk, call: Call, files: &[File]) -> Result<(), Fail> {
+    let (name, kind, _) = call;
+    holds(desk, files, name)?;
+    let unkept = u64::from(kind == DeskCall::Keep);
+    same(&desk.unkept(name), &unkept, name)
+}

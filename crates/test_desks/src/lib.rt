@@ -15,7 +15,7 @@ mod texts;
 
 pub use commands::{command, command_beside, ends, leaves, words};
 pub use comparing::same;
-pub use desks::{Call, File, Shelf, fill, holds, plan};
+pub use desks::{Call, File, Shelf, fill, holds, holds_after, plan};
 pub use endings::{
     command_ended, end_is, entries_are, entries_by, finished, refused, session_ended,
 };
