@@ -1,7 +1,7 @@
 use std::alloc::Global;
 use std::test::Fail;
 use test_desks::{Call, File, Host, Shelf, command, fill, holds, leaves, refused, same, words};
-use view_commands::{Status, trial};
+use view_commands::{Ended, Status, trial};
 use view_ends::{DeskCall, MemDesk, NoBeside, StillDesk};
 
 /// A trial without records.
@@ -150,8 +150,10 @@ fn the_call_takes_its_own_row_alone(rt: HostRuntime) -> Result<(), Fail> {
 /// How often writing of the summary failed, and how often its keeping did.
 type Faults = [u64; 2];
 
-/// What is counted of the summary. Of the other names nothing has to be counted.
-fn counted(desk: &MemDesk, wanted: Faults) -> Result<(), Fail> {
+/// The trial has to have ended so, and this to be counted of the summary. Of the other names nothing has
+/// to be counted.
+fn counted(desk: &MemDesk, ended: &Ended, status: Status, wanted: Faults) -> Result<(), Fail> {
+    refused(ended, LINE, status)?;
     let read = [
         desk.unopened("5"),
         desk.taken("5"),
@@ -175,8 +177,7 @@ fn ended(
     fill(alloc, &mut desk, &FILES)?;
     desk.fail(call.0, call.1, call.2)?;
     let ended = command(rt, alloc, &mut desk, LINE)?;
-    refused(&ended, LINE, status)?;
-    counted(&desk, wanted)?;
+    counted(&desk, &ended, status, wanted)?;
     Ok(desk)
 }
 

@@ -6,7 +6,7 @@ use test_desks::{
     plain, plan, refused,
 };
 use view_base::Bytes;
-use view_commands::Status;
+use view_commands::{Ended, Status};
 use view_ends::{DeskCall, MemDesk};
 
 /// A command of each kind that reads a survey.
@@ -39,6 +39,19 @@ fn desk_of(alloc: Global, files: &[File], calls: &[Call]) -> Result<MemDesk, Fai
     Ok(desk)
 }
 
+/// A command has to have ended so, without a session, and to have left these files and the others.
+fn stays(
+    desk: &MemDesk,
+    ended: &Ended,
+    line: &str,
+    files: &[File],
+    status: Status,
+) -> Result<(), Fail> {
+    refused(ended, line, status)?;
+    holds(desk, &OTHERS, line)?;
+    holds(desk, files, line)
+}
+
 /// Runs a line over a desk with these files and the others, on which these calls are to fail: it
 /// has to end so and to leave all of them.
 fn leaves_all(
@@ -51,9 +64,7 @@ fn leaves_all(
 ) -> Result<(), Fail> {
     let mut desk = desk_of(alloc, files, calls)?;
     let ended = command(rt, alloc, &mut desk, line)?;
-    refused(&ended, line, status)?;
-    holds(&desk, &OTHERS, line)?;
-    holds(&desk, files, line)
+    stays(&desk, &ended, line, files, status)
 }
 
 /// Runs each command over this survey, which it has to refuse so and leave every file: also where

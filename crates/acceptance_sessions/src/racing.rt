@@ -85,8 +85,9 @@ fn outcome_of(history: &[Entry]) -> usize
     }
 }
 
-/// The files have to be those of the outcome that the history has.
+/// The command has to have ended well, and the files to be those of the outcome that the history has.
 fn raced(desk: &impl Shelf, ended: &Ended) -> Result<(), Fail> {
+    command_ended(ended, Status::Done, Reason::Finished)?;
     let outcome = outcome_of(ended.told.history.as_slice());
     let [one, two, journal] = OUTCOMES[outcome];
     holds(desk, &[("o1", one), ("o2", two), ("j", journal)], SERVE_TWO)?;
@@ -115,7 +116,6 @@ fn races(rt: &impl Host, alloc: Global, survey: &[u8]) -> Result<(), Fail> {
         &[("a.las", survey), ("i1", TO_6), ("i2", TO_9)],
     )?;
     let ended = command(rt, alloc, &mut desk, SERVE_TWO)?;
-    command_ended(&ended, Status::Done, Reason::Finished)?;
     raced(&desk, &ended)
 }
 

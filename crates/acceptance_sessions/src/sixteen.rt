@@ -78,8 +78,9 @@ fn is_answered(
     Ok(())
 }
 
-/// Each edit of the history has to have been answered in its order.
+/// The command has to have ended well, and each edit of the history to have been answered in its order.
 fn are_answered(desk: &MemDesk, ended: &Ended) -> Result<(), Fail> {
+    command_ended(ended, Status::Done, Reason::Finished)?;
     let history = ended.told.history.as_slice();
     let told = [ended.told.sessions.len(), history.len()];
     same(&told, &[16, 16], "sessions and entries")?;
@@ -106,7 +107,6 @@ fn journal_of(alloc: Global, history: &[Entry]) -> Result<Vec<u8>, Fail> {
 /// Serves the sixteen sessions.
 fn serves_sixteen(rt: &impl Host, alloc: Global, desk: &mut MemDesk) -> Result<(), Fail> {
     let ended = command(rt, alloc, desk, SERVE_SIXTEEN)?;
-    command_ended(&ended, Status::Done, Reason::Finished)?;
     are_answered(desk, &ended)?;
     let journal = journal_of(alloc, ended.told.history.as_slice())?;
     holds(desk, &[("j", &journal)], "the journal")
