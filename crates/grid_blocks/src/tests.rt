@@ -164,7 +164,10 @@ fn spread(alloc: Global) -> Result<Survey, Fail> {
     let mut bytes = Bytes::new(alloc);
     append_header(&mut bytes, 5000)?;
     for i in 0..5000i32 {
-        append_record(&mut bytes, [i * 7919 % 5003, i * 31 % 97, i % 11])?;
+        append_record(
+            &mut bytes,
+            [i.wrapping_mul(97) % 5003, i.wrapping_mul(31) % 97, i % 11],
+        )?;
     }
     Ok(load(alloc, &mut StillSource::new(bytes))?)
 }
