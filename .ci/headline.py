@@ -97,12 +97,12 @@ PARTS = [
     ),
     (
         "each picture the plain nearest-record picture",
-        "The reply to a view is `picture`, which is made pixel by pixel of the nearest record, and knows no worker, block or frame.",
+        "The reply to a view is `picture`, which is made pixel by pixel of the nearest record, and knows no worker, block or frame. The nearest record is the one of the least depth, floored to a whole unit, and of several the one that stands first in the file.",
         ["reply = View"],
     ),
     (
         "and every saved file the read bytes with the classes",
-        "The reply to a save is `saved`, which differs from `b` in class bits alone.",
+        "The reply to a save is a line `FILE` with version and length, and then `saved`, which differs from `b` in class bits alone. So a saved file is those bytes of OUT.",
         ["reply = Save"],
     ),
     (
