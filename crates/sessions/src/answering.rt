@@ -180,14 +180,7 @@ fn answer_count<R: Threads + Wait + Sync, O: Sink>(
     out.reserve(HEAD)?;
     let pin = world.shared.pin(rt, pass)?;
     let version = pin.version();
-    append_count(
-        rt,
-        &world.scene,
-        pin.classes(),
-        version,
-        filter,
-        &mut out,
-    );
+    append_count(rt, &world.scene, pin.classes(), version, filter, &mut out);
     marks.push_within(version);
     world.shared.unpin(rt, pass, pin);
     give_all(sink, out.as_slice())

@@ -63,7 +63,17 @@ fn count_side_by_side<R: Threads + Sync>(
         &mut ||
             requires { IsSync R.row × (length classes.now ≡ record_count survey.now) × (first + half + rest ≤ record_count survey.now) × (first + half + rest < 2 ^ 32) }
             ensures { (result ≡ count_by (passes survey.entry.now classes.entry.now filter.entry.now) (range_with_len (first + half) rest)) × (result ≤ rest) }
-        { count_side_by_side(rt, back_workers, survey, classes, filter, first + half, rest) },
+        {
+            count_side_by_side(
+                rt,
+                back_workers,
+                survey,
+                classes,
+                filter,
+                first + half,
+                rest,
+            )
+        },
     );
     front + back
 }

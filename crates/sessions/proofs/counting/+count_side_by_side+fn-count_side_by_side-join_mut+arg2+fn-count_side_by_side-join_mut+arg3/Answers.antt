@@ -12,7 +12,7 @@ counted_both : (test : ℕ → Bool) (first half rest count front back : ℕ) �
 counted_both test first half rest count front back whole low high =
     ap (λ (k : ℕ). k + back) low ∙ ap (λ (k : ℕ). count_by test (range_with_len first half) + k) high
     ∙ sym (ap (λ (k : ℕ). count_by test (range_with_len first k)) (sym whole) ∙ ap (count_by test) (range-append first half rest)
-        ∙ sum_by-append (λ k. cond (test k) 1 0) (range_with_len first half) (range_with_len (first + half) rest))
+    ∙ sum_by-append (λ k. cond (test k) 1 0) (range_with_len first half) (range_with_len (first + half) rest))
 
 pub returns-clause-counted : goal.returns-clause-counted
 returns-clause-counted g t c =
