@@ -84,11 +84,8 @@ struct Ending<'a> {
 fn prepare(alloc: Global, desk: &mut MemDesk, side: Side, call: Call) -> Result<(), Fail> {
     let survey = plain(alloc, &ONE)?;
     fill(alloc, desk, &[("a.las", survey.as_slice())])?;
-    fill(
-        alloc,
-        desk,
-        &[(side.input, SAVING), (side.other_input, COUNT)],
-    )?;
+    fill(alloc, desk, &[(side.input, SAVING)])?;
+    fill(alloc, desk, &[(side.other_input, COUNT)])?;
     plan(desk, &[call])
 }
 
