@@ -5,6 +5,7 @@ use test_desks::{
     Call, File, Host, ONE, SERVE_TWO, Shelf, command, command_ended, end_is, entries_by, fill,
     holds, holds_after, plain, plan, refused, same, then_file,
 };
+use view_base::Bytes;
 use view_commands::{Ended, Status};
 use view_ends::{DeskCall, MemDesk};
 
@@ -80,12 +81,24 @@ struct Ending<'a> {
     journal: Reason,
 }
 
+/// Puts the survey of one point on a desk.
+fn put_survey(alloc: Global, desk: &mut MemDesk) -> Result<(), Fail> {
+    let survey = plain(alloc, &ONE)?;
+    fill(alloc, desk, &[("a.las", survey.as_slice())])
+}
+
+/// Puts a script on a desk.
+fn put_script(alloc: Global, desk: &mut MemDesk, name: &str, script: &[u8]) -> Result<(), Fail> {
+    let mut copy = Bytes::new(alloc);
+    copy.append(script)?;
+    Ok(desk.put(name, copy)?)
+}
+
 /// Puts the survey of one point and both scripts on a desk, and plans the call that is to fail.
 fn prepare(alloc: Global, desk: &mut MemDesk, side: Side, call: Call) -> Result<(), Fail> {
-    let survey = plain(alloc, &ONE)?;
-    fill(alloc, desk, &[("a.las", survey.as_slice())])?;
-    fill(alloc, desk, &[(side.input, SAVING)])?;
-    fill(alloc, desk, &[(side.other_input, COUNT)])?;
+    put_survey(alloc, desk)?;
+    put_script(alloc, desk, side.input, SAVING)?;
+    put_script(alloc, desk, side.other_input, COUNT)?;
     plan(desk, &[call])
 }
 
@@ -147,12 +160,12 @@ fn fails(
 }
 
 /// Serves with a read that fails once so many bytes of the script were taken.
-fn read_fails(
+fn read_fails<'a>(
     rt: &impl Host,
     alloc: Global,
-    side: Side,
+    side: Side<'a>,
     at: usize,
-    all: &[u8],
+    all: &'a [u8],
 ) -> Result<(), Fail> {
     let (marks, out, journal) = if at < LINE.len() {
         ([].as_slice(), NONE, NONE)
@@ -174,12 +187,12 @@ fn read_fails(
 }
 
 /// Serves with a write that fails once the output got so many bytes.
-fn write_fails(
+fn write_fails<'a>(
     rt: &impl Host,
     alloc: Global,
-    side: Side,
+    side: Side<'a>,
     at: usize,
-    all: &[u8],
+    all: &'a [u8],
 ) -> Result<(), Fail> {
     let marks = if at < EDITED {
         [1].as_slice()
@@ -220,7 +233,7 @@ fn late(
 }
 
 /// Serves with each call that can fail after both sessions.
-fn late_ones(rt: &impl Host, alloc: Global, side: Side, all: &[u8]) -> Result<(), Fail> {
+fn late_ones<'a>(rt: &impl Host, alloc: Global, side: Side<'a>, all: &'a [u8]) -> Result<(), Fail> {
     let keep: Call = (side.output, DeskCall::Keep, 0);
     let whole: File = ("j", LINE);
     late(
