@@ -2,14 +2,13 @@
 //! number of records, 0, 0).
 ghost use Rattle.grid_blocks.specs.Blocks.{IsBlocks};
 
-use crate::tests::{RECORDS, are, are_all, drawn_edit, edit_of, survey};
+use crate::tests::{RECORDS, are, are_all, drawn_edit, edit_of, owners, survey};
 use crate::{Classes, base};
 use edit_ops::Edit;
 use grid_blocks::{Blocks, build, build_by_number};
 use las_survey::Survey;
 use std::alloc::Global;
 use std::process::Abort;
-use std::sync::Arc;
 use std::test::Fail;
 use std::thread::Threads;
 
@@ -132,35 +131,26 @@ fn an_edit_by_blocks_reaches_every_page(rt: HostRuntime) -> Result<(), Fail> {
     Ok(())
 }
 
-/// Which of the first two pages two versions have at one address.
-fn shared(rt: &impl Abort, one: &Classes, two: &Classes) -> [bool; 2] {
-    assert_eq!(rt; (one.pages(), two.pages()), (2, 2));
-    [
-        Arc::as_ptr(one.page(0)) == Arc::as_ptr(two.page(0)),
-        Arc::as_ptr(one.page(1)) == Arc::as_ptr(two.page(1)),
-    ]
-}
-
-/// Which pages of 8192 records stay shared by an edit of record 0 alone, and by one that gives every
-/// record the class that it has.
+/// How many lists have each of the two pages of 8192 records as read, after an edit of record 0
+/// alone, and after one that gives every record the class that it has.
 fn shared_by_two<R: Abort + Threads + Sync>(
     rt: &R,
     alloc: Global,
     survey: &Survey,
-) -> Result<[[bool; 2]; 2], Fail> {
+) -> Result<[[usize; 2]; 3], Fail> {
     let blocks = build(alloc, rt, 2, survey)?;
     let read = base(alloc, survey)?;
     let first = edit_of(b"edit 0 0 0 0 0 0 2 6")?;
     let none = edit_of(b"edit 0 0 0 9000 0 0 2 2")?;
     let one = edited(rt, alloc, survey, &blocks, &read, &first, 1)?;
     let two = edited(rt, alloc, survey, &blocks, &read, &none, 0)?;
-    Ok([shared(rt, &read, &one), shared(rt, &read, &two)])
+    Ok([owners(rt, &read), owners(rt, &one), owners(rt, &two)])
 }
 
 #[test]
 fn an_edit_by_blocks_shares_the_pages_that_it_leaves(rt: HostRuntime) -> Result<(), Fail> {
     let survey = survey(rt.alloc(), 8192, STEP)?;
     let got = shared_by_two(&rt, rt.alloc(), &survey)?;
-    assert_eq!(rt; got, [[false, true], [true, true]]);
+    assert_eq!(rt; got, [[2, 3], [1, 3], [2, 3]]);
     Ok(())
 }
