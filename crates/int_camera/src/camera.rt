@@ -2,6 +2,7 @@ ghost use Rattle.std.specs.Prelude.{◌≡◌, ◌+◌, ◌*◌, ◌≤◌, None
 ghost use Rattle.int_camera.specs.Limits.{first_outside, lens_of, number, point_from, projection_of};
 ghost use Rattle.int_camera.specs.Kept.{IsCoordinate};
 
+use crate::division::reciprocal;
 use crate::numbers::{CameraLimit, CameraNumbers, Kind, first_limit};
 use std::marker::Model;
 use view_base::Point;
@@ -20,7 +21,10 @@ pub struct Camera {
     /// No picture has a point in perspective farther than this from its middle, before the
     /// distance is multiplied by the scale.
     pub(crate) reach: u64,
+    /// By these a quotient is found without a division: `(2^64 - 1) / scale`, and so for the unit.
+    pub(crate) scale_reciprocal: u64,
     pub(crate) unit: u64,
+    pub(crate) unit_reciprocal: u64,
     pub(crate) near: u32,
     pub(crate) far: u32,
 }
@@ -30,18 +34,18 @@ impl Model for Camera {
 
     ghost Value = { Lens };
 
-    ghost use Rattle.std.specs.Prelude.{◌≡◌, ◌/◌, ◌^◌};
+    ghost use Rattle.std.specs.Prelude.{◌≡◌, ◌-◌, ◌/◌, ◌^◌};
     ghost use Rattle.std.proofs.Common.{sym};
     ghost use Rattle.int_camera.specs.Limits.{kind_of, kind_of_projection, projection_of};
     ghost use Rattle.int_camera.specs.Kept.{IsCamera};
 
     ghost view = { λ c. record { kind = projection_of c.kind; width = c.width; height = c.height; eye = c.eye; right = c.right; down = c.down; forward = c.forward; scale = c.scale; unit = c.unit; near = c.near; far = c.far } };
 
-    ghost inverse = { λ l. record { kind = kind_of l.kind; width = l.width; height = l.height; eye = l.eye; right = l.right; down = l.down; forward = l.forward; scale = l.scale; reach = 2 ^ 60 / l.scale; unit = l.unit; near = l.near; far = l.far } };
+    ghost inverse = { λ l. record { kind = kind_of l.kind; width = l.width; height = l.height; eye = l.eye; right = l.right; down = l.down; forward = l.forward; scale = l.scale; reach = 2 ^ 60 / l.scale; scale_reciprocal = (2 ^ 64 - 1) / l.scale; unit = l.unit; unit_reciprocal = (2 ^ 64 - 1) / l.unit; near = l.near; far = l.far } };
 
-    ghost inverse_ok = { λ c h i. record { kind = kind_of_projection c.kind i; width = c.width; height = c.height; eye = c.eye; right = c.right; down = c.down; forward = c.forward; scale = c.scale; reach = sym h.0 i; unit = c.unit; near = c.near; far = c.far } };
+    ghost inverse_ok = { λ c h i. record { kind = kind_of_projection c.kind i; width = c.width; height = c.height; eye = c.eye; right = c.right; down = c.down; forward = c.forward; scale = c.scale; reach = sym h.0.0 i; scale_reciprocal = sym h.0.1.0 i; unit = c.unit; unit_reciprocal = sym h.0.1.1 i; near = c.near; far = c.far } };
 
-    ghost invariant = { λ c. (c.reach ≡ 2 ^ 60 / c.scale) × IsCamera (record { kind = projection_of c.kind; width = c.width; height = c.height; eye = c.eye; right = c.right; down = c.down; forward = c.forward; scale = c.scale; unit = c.unit; near = c.near; far = c.far }) };
+    ghost invariant = { λ c. ((c.reach ≡ 2 ^ 60 / c.scale) × ((c.scale_reciprocal ≡ (2 ^ 64 - 1) / c.scale) × (c.unit_reciprocal ≡ (2 ^ 64 - 1) / c.unit))) × IsCamera (record { kind = projection_of c.kind; width = c.width; height = c.height; eye = c.eye; right = c.right; down = c.down; forward = c.forward; scale = c.scale; unit = c.unit; near = c.near; far = c.far }) };
 }
 
 impl Camera {
@@ -68,6 +72,7 @@ impl Camera {
     {
         let n = &numbers.n;
         let scale = n[14] as u64;
+        let unit = n[15] as u64;
         Camera {
             kind: numbers.kind,
             width: n[0] as u32,
@@ -78,7 +83,9 @@ impl Camera {
             forward: point_from(numbers, 12),
             scale,
             reach: (1 << 60) / scale,
-            unit: n[15] as u64,
+            scale_reciprocal: reciprocal(scale),
+            unit,
+            unit_reciprocal: reciprocal(unit),
             near: n[16] as u32,
             far: n[17] as u32,
         }

@@ -3,6 +3,7 @@
 #![tactic(auto)]
 
 mod camera;
+mod division;
 mod half_space;
 mod numbers;
 mod projection;

@@ -1,9 +1,10 @@
-ghost use Rattle.std.specs.Prelude.{◌≡◌, ◌+◌, ◌*◌, ◌/◌, ◌-◌, ◌^◌, ◌<◌, ◌≤◌, ℤ, pos, neg_ℤ, ◌+ℤ◌, ◌-ℤ◌, ◌*ℤ◌, ◌≤ℤ◌, Some, IfSome};
+ghost use Rattle.std.specs.Prelude.{◌≡◌, ◌+◌, ◌*◌, ◌/◌, ◌-◌, ◌^◌, ◌<◌, ◌≤◌, ℤ, pos, neg_ℤ, ◌+ℤ◌, ◌-ℤ◌, ◌*ℤ◌, ◌≤ℤ◌, Some, None, IfSome, IfNone};
 ghost use Rattle.view_meaning.specs.Camera.{orthographic, perspective, spot, spot_by, spot_of, away, between, dot, floor, from_edge};
 ghost use Rattle.int_camera.specs.Kept.{IsDistance, IsReached, IsVector};
 ghost use Rattle.int_camera.specs.Seen.{seen};
 
 use crate::camera::Camera;
+use crate::division::{quotient, reciprocal};
 use crate::numbers::Kind;
 use view_base::Point;
 
@@ -44,8 +45,11 @@ fn project_ortho(camera: &Camera, across: i64, along: i64, ahead: i64) -> Option
     ensures pixel { IfSome result (λ s. s.pixel < camera.now.width * camera.now.height) }
     ensures depth { IfSome result (λ s. s.depth ≤ 2 ^ 32 - 2) }
 {
-    let column = place(across, camera.scale, camera.width)?;
-    let row = place(along, camera.scale, camera.height)?;
+    let column = offset(across, camera.scale, camera.width)?;
+    let row = offset(along, camera.scale, camera.height)?;
+    let by = camera.scale_reciprocal;
+    let column = place(column, camera.scale, by, camera.width);
+    let row = place(row, camera.scale, by, camera.height);
     spot_at(camera, column, row, ahead)
 }
 
@@ -64,8 +68,11 @@ fn project_persp(camera: &Camera, across: i64, along: i64, ahead: i64) -> Option
         return None;
     }
     let apart = ahead as u64;
-    let column = magnified_place(across, camera.scale, camera.reach, apart, camera.width)?;
-    let row = magnified_place(along, camera.scale, camera.reach, apart, camera.height)?;
+    let column = magnified_offset(across, camera.scale, camera.reach, apart, camera.width)?;
+    let row = magnified_offset(along, camera.scale, camera.reach, apart, camera.height)?;
+    let by = reciprocal(apart);
+    let column = place(column, apart, by, camera.width);
+    let row = place(row, apart, by, camera.height);
     spot_at(camera, column, row, ahead)
 }
 
@@ -79,43 +86,50 @@ fn spot_at(camera: &Camera, column: u32, row: u32, ahead: i64) -> Option<Spot>
     ensures pixel { IfSome result (λ s. s.pixel < camera.now.width * camera.now.height) }
     ensures depth { IfSome result (λ s. s.depth ≤ 2 ^ 32 - 2) }
 {
-    let depth = depth(ahead, camera.unit, camera.near, camera.far)?;
+    let depth = depth(
+        ahead,
+        camera.unit,
+        camera.unit_reciprocal,
+        camera.near,
+        camera.far,
+    )?;
     Some(Spot {
         pixel: row * camera.width + column,
         depth,
     })
 }
 
-/// The column or row, counted from the edge, of a distance from the picture's middle that is
-/// magnified by the scale, where the picture has it. One out of reach lies beside every picture,
-/// and its product with the scale may not fit 64 bits.
+/// A distance from the picture's middle that is magnified by the scale, as one from the picture's
+/// left or top edge, where the picture has it. One out of reach lies beside every picture, and its
+/// product with the scale may not fit 64 bits.
 #[inline]
-fn magnified_place(distance: i64, scale: u64, reach: u64, step: u64, size: u32) -> Option<u32>
+fn magnified_offset(distance: i64, scale: u64, reach: u64, step: u64, size: u32) -> Option<u64>
     requires scale { (1 ≤ scale) × (scale ≤ 2 ^ 20) }
     requires reach { reach ≡ 2 ^ 60 / scale }
     requires step { (1 ≤ step) × (step ≤ 2 ^ 49) }
     requires size { (1 ≤ size) × (size ≤ 4096) }
-    ensures value { result ≡ from_edge (floor (distance *ℤ pos scale) step) size }
-    ensures within { IfSome result (λ place. place < size) }
+    ensures inside { IfSome result (λ offset. from_edge (floor (distance *ℤ pos scale) step) size ≡ Some (offset / step)) }
+    ensures beside { IfNone result (from_edge (floor (distance *ℤ pos scale) step) size ≡ None) }
+    ensures within { IfSome result (λ offset. offset < size * step) }
 {
     if distance.unsigned_abs() > reach {
         return None;
     }
-    place(distance * scale as i64, step, size)
+    offset(distance * scale as i64, step, size)
 }
 
-/// The column or row, counted from the edge, of a distance from the picture's middle in steps of a
-/// pixel, where the picture has it.
+/// A distance from the picture's middle as one from its left or top edge, where the picture has it,
+/// in steps of a pixel. The quotient, rounded down, is below the size exactly where the distance is
+/// below the size times the step: a point beside the picture costs no division.
 #[inline]
-fn place(distance: i64, step: u64, size: u32) -> Option<u32>
+fn offset(distance: i64, step: u64, size: u32) -> Option<u64>
     requires distance { IsReached distance }
     requires step { (1 ≤ step) × (step ≤ 2 ^ 49) }
     requires size { (1 ≤ size) × (size ≤ 4096) }
-    ensures value { result ≡ from_edge (floor distance step) size }
-    ensures within { IfSome result (λ place. place < size) }
+    ensures inside { IfSome result (λ offset. from_edge (floor distance step) size ≡ Some (offset / step)) }
+    ensures beside { IfNone result (from_edge (floor distance step) size ≡ None) }
+    ensures within { IfSome result (λ offset. offset < size * step) }
 {
-    // The quotient, rounded down, is below the size exactly where the distance is below the size
-    // times the step: a point beside the picture costs no division.
     let offset = from_near_edge(distance, step, size);
     if offset < 0 {
         return None;
@@ -124,7 +138,19 @@ fn place(distance: i64, step: u64, size: u32) -> Option<u32>
     if offset >= u64::from(size) * step {
         return None;
     }
-    Some((offset / step) as u32)
+    Some(offset)
+}
+
+/// The column or row of a distance from the picture's left or top edge, in steps of a pixel.
+#[inline]
+fn place(offset: u64, step: u64, reciprocal: u64, size: u32) -> u32
+    requires offset { offset < size * step }
+    requires step { 1 ≤ step }
+    requires reciprocal { reciprocal ≡ (2 ^ 64 - 1) / step }
+    ensures value { result ≡ offset / step }
+    ensures within { result < size }
+{
+    quotient(offset, step, reciprocal) as u32
 }
 
 /// A distance from the picture's middle as one from its left or top edge.
@@ -140,16 +166,17 @@ fn from_near_edge(distance: i64, step: u64, size: u32) -> i64
 
 /// The depth of a distance ahead of the eye, where it lies between near and far.
 #[inline]
-fn depth(distance: i64, unit: u64, near: u32, far: u32) -> Option<u32>
+fn depth(distance: i64, unit: u64, reciprocal: u64, near: u32, far: u32) -> Option<u32>
     requires distance { IsDistance distance }
     requires unit { (1 ≤ unit) × (unit ≤ 2 ^ 40) }
+    requires reciprocal { reciprocal ≡ (2 ^ 64 - 1) / unit }
     ensures value { result ≡ between (floor distance unit) near far }
     ensures within { IfSome result (λ depth. depth ≤ far) }
 {
     if distance < 0 {
         return None;
     }
-    let depth = distance as u64 / unit;
+    let depth = quotient(distance as u64, unit, reciprocal);
     if u64::from(near) <= depth && depth <= u64::from(far) {
         Some(depth as u32)
     } else {

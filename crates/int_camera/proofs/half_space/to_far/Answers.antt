@@ -2,9 +2,17 @@ use Rattle.std.proofs.Common.{◌≡◌, ◌∙◌, ℤ, pos, ◌-ℤ◌, FitsSi
 use Rattle.std.proofs.lemmas.Int.{ints, to_z-of_z}
 use mir.Syntax.{w128}
 use Rattle.view_meaning.specs.Camera.{Lens}
+use Rattle.int_camera.specs.Kept.{IsFar}
 use Rattle.int_camera.specs.HalfSpaces.{opposite, past_eye, to_far}
 use Rattle.int_camera.proofs.Spots.{shown}
 use Rattle.int_camera.proofs.half_space.to_far.Goals as goal
+
+pub past_against-requires-clause-far : goal.past_against-requires-clause-far
+past_against-requires-clause-far c =
+    let fits : FitsSigned w128 c.steps.result = omega (arith, ints, c.steps.ensures.bounds) in
+    let rest : FitsSigned w128 (pos 1 -ℤ c.steps.result) = omega (arith, ints, c.steps.ensures.bounds) in
+    let far : IsFar (pos 1 -ℤ c.steps.result) = (omega (arith, ints, c.steps.ensures.bounds), omega (arith, ints, c.steps.ensures.bounds)) in
+    simp to_z-of_z far
 
 pub returns : goal.returns
 returns c =

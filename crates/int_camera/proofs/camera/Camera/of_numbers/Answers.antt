@@ -110,22 +110,22 @@ overflow_cast-scale c =
     let known = in_range (projection_of c.args.numbers.now.kind) n len c.requires in
     cast_64 (number n 15) (omega (arith, ints, known.scale)) (omega (arith, ints, known.scale))
 
-pub overflow_cast-result-3 : goal.overflow_cast-result-3
-overflow_cast-result-3 c =
+pub overflow_cast-unit : goal.overflow_cast-unit
+overflow_cast-unit c =
     let n : List ℤ = c.args.numbers.now.n in
     let len : length n ≡ 18 = search rules in
     let known = in_range (projection_of c.args.numbers.now.kind) n len c.requires in
     cast_64 (number n 16) (omega (arith, ints, known.unit)) (omega (arith, ints, known.unit))
 
-pub overflow_cast-result-4 : goal.overflow_cast-result-4
-overflow_cast-result-4 c =
+pub overflow_cast-result-3 : goal.overflow_cast-result-3
+overflow_cast-result-3 c =
     let n : List ℤ = c.args.numbers.now.n in
     let len : length n ≡ 18 = search rules in
     let known = in_range (projection_of c.args.numbers.now.kind) n len c.requires in
     cast_32 (number n 17) (omega (arith, ints, known.near)) (omega (arith, ints, known.near))
 
-pub overflow_cast-result-5 : goal.overflow_cast-result-5
-overflow_cast-result-5 c =
+pub overflow_cast-result-4 : goal.overflow_cast-result-4
+overflow_cast-result-4 c =
     let n : List ℤ = c.args.numbers.now.n in
     let len : length n ≡ 18 = search rules in
     let known = in_range (projection_of c.args.numbers.now.kind) n len c.requires in
@@ -139,12 +139,28 @@ nonzero_div-result c =
     let least = abs_within (number n 15) 1 (2 ^ 40) (omega arith) known.scale in
     omega (arith, least)
 
+pub reciprocal-requires : goal.reciprocal-requires
+reciprocal-requires c =
+    let n : List ℤ = c.args.numbers.now.n in
+    let len : length n ≡ 18 = search rules in
+    let known = in_range (projection_of c.args.numbers.now.kind) n len c.requires in
+    let least = abs_within (number n 15) 1 (2 ^ 40) (omega arith) known.scale in
+    record { by = omega (arith, least) }
+
+pub reciprocal-requires-2 : goal.reciprocal-requires-2
+reciprocal-requires-2 c =
+    let n : List ℤ = c.args.numbers.now.n in
+    let len : length n ≡ 18 = search rules in
+    let known = in_range (projection_of c.args.numbers.now.kind) n len c.requires in
+    let least = abs_within (number n 16) 1 (2 ^ 40) (omega arith) known.unit in
+    record { by = omega (arith, least) }
+
 pub invariant_of-result : goal.invariant_of-result
 invariant_of-result c =
     let n : List ℤ = c.args.numbers.now.n in
     let len : length n ≡ 18 = search rules in
     let known = in_range (projection_of c.args.numbers.now.kind) n len c.requires in (
-      refl,
+      (refl, (c.reciprocal.ensures.value, c.reciprocal-2.ensures.value)),
       record {
         width = abs_within (number n 1) 1 4096 (omega arith) known.width;
         height = abs_within (number n 2) 1 4096 (omega arith) known.height;
