@@ -24,16 +24,22 @@ SENTENCE = (
 
 # The records whose fields say the sentence, by crate and file.
 RECORDS = {
-    "ServesLine": ("view_commands", "Serve"),
+    "ServesLine": ("view_commands", "Run"),
     "IsReadWhole": ("view_commands", "Texts"),
-    "NoSession": ("view_commands", "Serve"),
-    "RunsSessions": ("view_commands", "Serve"),
-    "RunsSession": ("view_commands", "Serve"),
+    "NoSession": ("view_commands", "Run"),
+    "RunsSessions": ("view_commands", "Run"),
+    "RunsSession": ("view_commands", "Run"),
     "Served": ("sessions", "Session"),
     "Processed": ("sessions", "Session"),
 }
-# The line whose words fit, which is where the promise begins.
-ROOTS = [("view_commands", "Serve", "ServesLine"), ("view_words", "CommandLine", "IsLine")]
+# The line whose words fit, which is where the promise begins, and what the clause on `run` names besides.
+ROOTS = [
+    ("view_commands", "Run", "ServesLine"),
+    ("view_commands", "Run", "IsNothing"),
+    ("view_words", "CommandLine", "IsLine"),
+    ("view_words", "CommandLine", "all_rows"),
+    ("view_words", "CommandLine", "texts"),
+]
 
 # Words of the sentence, what they say, and the fields that say it. A field with `= word` is the line of a definition
 # that has the word.
@@ -107,9 +113,11 @@ PARTS = [
     ),
     (
         "of one version of the run's single edit journal,",
-        "There is one history for all sessions. A version is a front of its published edits, and each item has one mark, the version of its "
-        "reply, which `Makes` ties to the session's own entry in that history. At the end JOURNAL's file has the line of each edit, or the "
-        "cause is told.",
+        "There is one history for all sessions, which `run` tells (`ended.told.history`). A version is a front of its published edits, and "
+        "each item has one mark, the version of its reply. No field names a store. What ties this history to what came about is this: each "
+        "entry is by one of the sessions (`makers`); the entries of a session in it are those that its items make, no more and no fewer, in "
+        "their order and under its marks (`makes`); each reply of each session is the one at its mark in it (`got`); and at the end JOURNAL's "
+        "file has the line of each of its edits, or the cause is told (`journal_file`).",
         [
             "RunsSessions.legal",
             "RunsSessions.makers",
@@ -174,7 +182,7 @@ def cited(fields, told):
     for name in fields:
         if " = " in name:
             what, _, word = name.partition(" = ")
-            lines = definition("sessions", "Replies", what).text.splitlines()
+            lines = definition("sessions", "Session", what).text.splitlines()
             out += [f"`{what}`:\n", block("\n".join(line for line in lines if f"({word}" in line or f"Ok {word})" in line))]
             continue
         whole, _, field = name.partition(".")

@@ -13,7 +13,7 @@ import unittest
 
 ROOT = os.path.dirname(os.path.dirname(os.path.realpath(__file__)))
 PAGES = {"definitions.py": "docs/DEFINITIONS.md", "headline.py": "docs/HEADLINE.md", "map.py": "docs/ARCHITECTURE.md", "sizes.py": "docs/PROVING.md"}
-SERVE = "crates/view_commands/specs/Serve.antt"
+SERVE = "crates/view_commands/specs/Run.antt"
 
 
 class Pages(unittest.TestCase):

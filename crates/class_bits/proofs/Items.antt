@@ -14,7 +14,11 @@ use Rattle.view_meaning.specs.Classes.{has, all_classes}
 use Rattle.class_bits.specs.ClassSet.{no_classes, set_of}
 use Rattle.class_bits.specs.Kept.{IsClassSet}
 use Rattle.class_bits.proofs.Sets.{same_sets, has-set_of, IsClassSet-set_of, has-no_classes, IsClassSet-no_classes}
-use Rattle.class_bits.specs.ClassSet.{is_dash, is_comma, is_between, in_ranges, range_of, item_range, item_ranges, and_ranges, class_list}
+use Rattle.class_bits.specs.ClassSet.{is_dash, is_comma, in_ranges, range_of, item_range, item_ranges, and_ranges, class_list}
+
+-- whether a class lies between two others, both included
+abbrev pub is_between : ℕ → ℕ × ℕ → Bool
+is_between class range = leb range.0 class && leb class range.1
 
 -- an item with a dash is cut there
 pub item_range-cut : (item : List ℕ) (n : ℕ) → position is_dash item ≡ Some n → item_range item ≡ range_of (digits (take n item)) (digits (drop (n + 1) item))

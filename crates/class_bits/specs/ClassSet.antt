@@ -24,13 +24,9 @@ bits_of passes (suc n) = bits_of passes n + (if passes n then 2 ^ n else 0)
 unfoldable pub set_of : (ℕ → Bool) → List ℕ
 set_of passes = map (λ k. bits_of (λ j. passes (64 * k + j)) 64) (0 ∷ 1 ∷ 2 ∷ 3 ∷ [])
 
--- whether a class lies between two others, both included
-abbrev pub is_between : ℕ → ℕ × ℕ → Bool
-is_between class range = nat_le range.0 class && nat_le class range.1
-
--- whether a class lies in one of these ranges
+-- whether a class lies in one of these ranges, both ends of each included
 abbrev pub in_ranges : List (ℕ × ℕ) → ℕ → Bool
-in_ranges ranges class = list_any (is_between class) ranges
+in_ranges ranges class = list_any (λ (range : ℕ × ℕ). nat_le range.0 class && nat_le class range.1) ranges
 
 -- a range of classes by its ends, which are there, are at most 255 and do not fall
 abbrev pub range_of : Option ℕ → Option ℕ → Option (ℕ × ℕ)

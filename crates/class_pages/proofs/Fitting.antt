@@ -1,12 +1,12 @@
 -- Classes that a format has room for, record by record and after an edit.
-use Rattle.std.proofs.Common.{◌≡◌, ◌≢◌, ℕ, suc, ◌+◌, ◌-◌, ◌*◌, ◌<◌, ◌≤◌, Bool, true, false, if◌then◌else◌, List, length, get_or, set, map, inl, inr, sym, ◌∙◌, ap, subst, arith, All}
+use Rattle.std.proofs.Common.{◌≡◌, ◌&&◌, ◌≢◌, ℕ, suc, ◌+◌, ◌-◌, ◌*◌, ◌<◌, ◌≤◌, Bool, true, false, if◌then◌else◌, List, length, get_or, set, map, inl, inr, sym, ◌∙◌, ap, subst, arith, All}
 use Rattle.std.proofs.lemmas.Bool.{cases_lt}
 use Rattle.std.proofs.lemmas.Bool.Decides.{nat_tests}
 use Rattle.std.proofs.lemmas.List.{get_or_default, get_or_past, get_or-set_same, get_or-set_other}
 use Rattle.std.proofs.lemmas.List.FromFn.{get_or-map-range_with_len, length-map-range_with_len}
 use Rattle.std.specs.List.{range_with_len}
 use Rattle.view_meaning.specs.Survey.{record_count, point_of}
-use Rattle.view_meaning.specs.Classes.{Edit, applies, class_after, class_at, classes, top_class}
+use Rattle.view_meaning.specs.Classes.{Edit, in_box, has, class_after, class_at, classes, top_class}
 use Rattle.class_pages.specs.AfterEdit.{after_edit}
 use Rattle.class_pages.specs.Fitting.{EachFits}
 use Rattle.class_pages.specs.Pages.{page_of}
@@ -60,7 +60,7 @@ after_edit-fits b cs e format room fits = λ k d lt.
     let each = λ (i : ℕ). class_after (point_of b i) (get_or cs i 0) e in
     let within : k < length cs = let size : length (map each (range_with_len 0 (length cs))) ≡ length cs = length-map-range_with_len each 0 (length cs) in omega (arith, lt, size) in
     subst (λ (c : ℕ). c ≤ top_class format) (sym (get_or-map-range_with_len each 0 (length cs) k k d within (omega arith)))
-    (one_of (applies e (point_of b k) (get_or cs k 0)) e.to (get_or cs k 0) (top_class format) room (fits k 0 within))
+    (one_of (in_box e.area (point_of b k) && has e.from (get_or cs k 0)) e.to (get_or cs k 0) (top_class format) room (fits k 0 within))
 
 -- classes that a format has room for are bytes
 top_byte : (format : ℕ) → top_class format < 256

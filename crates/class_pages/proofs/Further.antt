@@ -7,22 +7,22 @@ use Rattle.std.proofs.lemmas.List.{length-set, get_or-set_same, get_or-set_other
 use Rattle.std.specs.List.{range_with_len}
 use Rattle.view_base.specs.declared.place.Point.{Point}
 use Rattle.view_meaning.specs.Survey.{point_of}
-use Rattle.view_meaning.specs.Classes.{Edit, in_box, has, applies, class_after, changed}
+use Rattle.view_meaning.specs.Classes.{Edit, in_box, has, class_after, changed}
 use Rattle.class_pages.specs.Underway.{after_at, IsUnderway, IsMadeOf, IsFurther}
 use Rattle.class_pages.proofs.Steps.{counts_more, counts_same}
 
 -- an edit made twice is that edit
 once_more : (p : Point) (c : ℕ) (e : Edit) → class_after p (class_after p c e) e ≡ class_after p c e
-once_more p c e = by (applies e p c) refl
+once_more p c e = by (in_box e.area p && has e.from c) refl
   where
     either : (t : Bool) (v : ℕ) → (if t then v else v) ≡ v
     either true v = refl
     either false v = refl
 
-    by : (t : Bool) → applies e p c ≡ t → class_after p (class_after p c e) e ≡ class_after p c e
+    by : (t : Bool) → (in_box e.area p && has e.from c) ≡ t → class_after p (class_after p c e) e ≡ class_after p c e
     by true is =
         let made : class_after p c e ≡ e.to = ap (λ (t : Bool). if t then e.to else c) is in
-        ap (λ (x : ℕ). class_after p x e) made ∙ either (applies e p e.to) e.to ∙ sym made
+        ap (λ (x : ℕ). class_after p x e) made ∙ either (in_box e.area p && has e.from e.to) e.to ∙ sym made
     by false is =
         let made : class_after p c e ≡ c = ap (λ (t : Bool). if t then e.to else c) is in
         ap (λ (x : ℕ). class_after p x e) made

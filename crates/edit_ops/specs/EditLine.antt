@@ -10,7 +10,7 @@ use Rattle.view_base.specs.Text.{number, digits}
 use Rattle.view_base.specs.Fitting.{word_at, misfit}
 use Rattle.view_meaning.specs.Classes as meaning
 use Rattle.view_meaning.specs.Classes.{all_classes}
-use Rattle.class_bits.specs.ClassSet.{no_classes, members, class_list}
+use Rattle.class_bits.specs.ClassSet.{members, class_list}
 use Rattle.edit_ops.specs.declared.fault.EditFault.{EditFault}
 use Rattle.edit_ops.specs.declared.fault.EditFault.TheVariants.{Line, ClassRange}
 
@@ -28,8 +28,7 @@ fits place word =
     if place == 0 then bytes_eq word (codes "edit")
     else if nat_le place 6 then is_some (coordinate word)
     else if place == 7 then is_some (class_list word)
-    else if place == 8 then is_some (digits word)
-    else false
+    else if place == 8 then is_some (digits word) else false
 
 -- an edit line has nine words
 abbrev pub is_whole : ℕ → Bool
@@ -47,7 +46,7 @@ point_at ws place = record { x = coordinate_at ws place; y = coordinate_at ws (p
 abbrev pub ranged_edit : List (List ℕ) → ℕ → ℕ → Result meaning.Edit EditFault
 ranged_edit ws format to =
     if nat_le to (meaning.top_class format)
-    then Ok (record { area = record { min = point_at ws 1; max = point_at ws 4 }; from = unwrap_or (class_list (word_at ws 7)) no_classes; to = to })
+    then Ok (record { area = record { min = point_at ws 1; max = point_at ws 4 }; from = unwrap_or (class_list (word_at ws 7)) all_classes; to = to })
     else Err (ClassRange (pos to))
 
 -- the edit of a line by its words for a point format, or why it is none

@@ -1,5 +1,5 @@
-ghost use Rattle.std.specs.Prelude.{◌≡◌};
-ghost use Rattle.view_meaning.specs.Classes.{applies, in_box};
+ghost use Rattle.std.specs.Prelude.{◌≡◌, ◌&&◌};
+ghost use Rattle.view_meaning.specs.Classes.{has, in_box};
 
 use class_bits::ClassSet;
 use std::marker::Model;
@@ -45,7 +45,7 @@ fn is_in(area: Box3, p: Point) -> bool
 
 /// Whether an edit changes the class of a record at this place with this class.
 pub fn applies(edit: &Edit, p: Point, class: u8) -> bool
-    ensures { result ≡ applies edit.now p class }
+    ensures { result ≡ (in_box edit.now.area p && has edit.now.from class) }
 {
     is_in(edit.area, p) && edit.from.has(class)
 }

@@ -61,12 +61,9 @@ near_range perspective = (pos 1, deepest)
 -- the least and the greatest of each number that is looked at, for a kind and a least depth
 abbrev pub ranges : Projection → ℤ → List (ℤ × ℤ)
 ranges kind near =
-    side ∷ side
-    ∷ coordinate ∷ coordinate ∷ coordinate
+    side ∷ side ∷ coordinate ∷ coordinate ∷ coordinate
     ∷ part ∷ part ∷ part ∷ part ∷ part ∷ part ∷ part ∷ part ∷ part
-    ∷ scale_range kind ∷ (pos 1, pos (2 ^ 40))
-    ∷ near_range kind ∷ (near, deepest)
-    ∷ (pos 1, pos 9437184) ∷ []
+    ∷ scale_range kind ∷ (pos 1, pos (2 ^ 40)) ∷ near_range kind ∷ (near, deepest) ∷ (pos 1, pos 9437184) ∷ []
 
 -- whether a number is below the least or above the greatest of a range
 abbrev pub is_out : ℤ × ℤ → ℤ → Bool

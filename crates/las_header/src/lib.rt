@@ -2,11 +2,10 @@
 //! does not meet.
 #![tactic(auto)]
 
-mod fault;
 mod header;
 mod number;
 mod reading;
 
-pub use fault::HeaderFault;
 pub use header::Header;
 pub use reading::{least_length, read_header};
+pub use view_base::HeaderFault;

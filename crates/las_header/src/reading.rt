@@ -1,10 +1,10 @@
 ghost use Rattle.std.specs.Prelude.{◌≡◌, ◌≤◌, length, None, Some, IfOk, OnOk, IfErr};
-ghost use Rattle.las_header.specs.Fault.{header_fault};
 ghost use Rattle.las_header.specs.Header.{IsHeaderOf};
+ghost use Rattle.view_base.specs.declared.fault.SurveyFault.TheVariants as survey;
 ghost use Rattle.view_meaning.specs.Layout as layout;
 
-use crate::fault::HeaderFault;
 use crate::header::Header;
+use view_base::HeaderFault;
 
 /// The fewest bytes of a public header block: those of LAS 1.2.
 const LEAST_BLOCK: u64 = 227;
@@ -51,7 +51,7 @@ pub fn least_length(format: u8) -> u16
 pub fn read_header(bytes: &[u8]) -> Result<Header, HeaderFault>
     ensures fields { IfOk result (λ header. IsHeaderOf bytes.now header) }
     ensures met { OnOk result (layout.first_fault (layout.header_faults bytes.now) ≡ None) }
-    ensures fault { IfErr result (λ fault. layout.first_fault (layout.header_faults bytes.now) ≡ Some (header_fault fault)) }
+    ensures fault { IfErr result (λ fault. layout.first_fault (layout.header_faults bytes.now) ≡ Some (survey.Header fault)) }
 {
     let have = bytes.len() as u64;
     if have < LEAST_BLOCK {

@@ -4,28 +4,31 @@ use Rattle.std.specs.Prelude.{nat_le}
 use Rattle.std.proofs.Math.Nat.{mul-le-mul_left, mul-le-mul_right}
 use Rattle.std.proofs.lemmas.List.Elements.{All-get_or}
 use Rattle.std.proofs.lemmas.Bool.Decides.{nat_tests}
-use Rattle.view_meaning.specs.Layout.{Fault, fault, IsLaid, first_fault, unless, header_faults, vlr_fault, evlr_fault, least_length, unknown_format, short_record, early_points, missing_points}
+use Rattle.view_base.specs.declared.fault.SurveyFault.{SurveyFault}
+use Rattle.view_base.specs.declared.fault.SurveyFault.TheVariants.{Header, Points}
+use Rattle.view_base.specs.declared.fault.HeaderFault.TheVariants.{Format, RecordLength, Offset}
+use Rattle.view_meaning.specs.Layout.{fault, IsLaid, first_fault, unless, header_faults, vlr_fault, evlr_fault, least_length}
 use Rattle.view_meaning.specs.Survey.{header_size, points_at, vlr_count, format_of, record_length, record_count, evlrs_at, evlr_count, record_at, points_end}
 
-first_fault-append-some : (faults others : List (Option Fault)) (f : Fault) → first_fault faults ≡ Some f → first_fault (faults ++ others) ≡ Some f
+first_fault-append-some : (faults others : List (Option SurveyFault)) (f : SurveyFault) → first_fault faults ≡ Some f → first_fault (faults ++ others) ≡ Some f
 first_fault-append-some [] others f found = absurd (cc found)
 first_fault-append-some (None ∷ faults) others f found = first_fault-append-some faults others f found
 first_fault-append-some (Some g ∷ faults) others f found = found
 
-first_fault-append-none : (faults others : List (Option Fault)) → first_fault faults ≡ None → first_fault (faults ++ others) ≡ first_fault others
+first_fault-append-none : (faults others : List (Option SurveyFault)) → first_fault faults ≡ None → first_fault (faults ++ others) ≡ first_fault others
 first_fault-append-none [] others none = refl
 first_fault-append-none (None ∷ faults) others none = first_fault-append-none faults others none
 first_fault-append-none (Some g ∷ faults) others none = absurd (cc none)
 
 -- the fault of the header
-pub fault-header : (b : List ℕ) (f : Fault) → first_fault (header_faults b) ≡ Some f → fault b ≡ Some f
+pub fault-header : (b : List ℕ) (f : SurveyFault) → first_fault (header_faults b) ≡ Some f → fault b ≡ Some f
 unfolding fault
 fault-header b f found = first_fault-append-some (header_faults b) _ f found
 
 -- the conditions after those on the header
-rest : List ℕ → List (Option Fault)
+rest : List ℕ → List (Option SurveyFault)
 rest b = vlr_fault b (header_size b) (points_at b) (vlr_count b)
-    ∷ unless (nat_le (points_end b) (length b)) (missing_points (points_end b) (length b))
+    ∷ unless (nat_le (points_end b) (length b)) (Points (points_end b) (length b))
     ∷ evlr_fault b (evlrs_at b) (points_end b) (evlr_count b)
     ∷ []
 
@@ -34,36 +37,36 @@ unfolding fault rest
 fault-rest b none = first_fault-append-none (header_faults b) _ none
 
 -- the fault of a variable length record
-pub fault-vlr : (b : List ℕ) (f : Fault) → first_fault (header_faults b) ≡ None → vlr_fault b (header_size b) (points_at b) (vlr_count b) ≡ Some f → fault b ≡ Some f
+pub fault-vlr : (b : List ℕ) (f : SurveyFault) → first_fault (header_faults b) ≡ None → vlr_fault b (header_size b) (points_at b) (vlr_count b) ≡ Some f → fault b ≡ Some f
 unfolding rest
 fault-vlr b f header found = fault-rest b header ∙ rw found refl
 
-within : (a n : ℕ) (f : Fault) → a ≤ n → unless (nat_le a n) f ≡ None
+within : (a n : ℕ) (f : SurveyFault) → a ≤ n → unless (nat_le a n) f ≡ None
 within a n f small = let t : nat_le a n ≡ true = grind (arith, nat_tests) in rw t refl
 
-beyond : (a n : ℕ) (f : Fault) → n < a → unless (nat_le a n) f ≡ Some f
+beyond : (a n : ℕ) (f : SurveyFault) → n < a → unless (nat_le a n) f ≡ Some f
 beyond a n f great = let t : nat_le a n ≡ false = grind (arith, nat_tests) in rw t refl
 
 -- the fault of the points
 pub fault-points : (b : List ℕ) → first_fault (header_faults b) ≡ None → vlr_fault b (header_size b) (points_at b) (vlr_count b) ≡ None → length b < points_end b
-    → fault b ≡ Some (missing_points (points_end b) (length b))
+    → fault b ≡ Some (Points (points_end b) (length b))
 unfolding rest
 fault-points b header vlrs great =
-    fault-rest b header ∙ rw (vlrs, beyond (points_end b) (length b) (missing_points (points_end b) (length b)) great) refl
+    fault-rest b header ∙ rw (vlrs, beyond (points_end b) (length b) (Points (points_end b) (length b)) great) refl
 
 -- the fault of an extended variable length record
-pub fault-evlr : (b : List ℕ) (f : Fault) → first_fault (header_faults b) ≡ None → vlr_fault b (header_size b) (points_at b) (vlr_count b) ≡ None → points_end b ≤ length b
+pub fault-evlr : (b : List ℕ) (f : SurveyFault) → first_fault (header_faults b) ≡ None → vlr_fault b (header_size b) (points_at b) (vlr_count b) ≡ None → points_end b ≤ length b
     → evlr_fault b (evlrs_at b) (points_end b) (evlr_count b) ≡ Some f → fault b ≡ Some f
 unfolding rest
 fault-evlr b f header vlrs small found =
-    fault-rest b header ∙ rw (vlrs, within (points_end b) (length b) (missing_points (points_end b) (length b)) small, found) refl
+    fault-rest b header ∙ rw (vlrs, within (points_end b) (length b) (Points (points_end b) (length b)) small, found) refl
 
 -- no fault
 pub laid : (b : List ℕ) → first_fault (header_faults b) ≡ None → vlr_fault b (header_size b) (points_at b) (vlr_count b) ≡ None → points_end b ≤ length b
     → evlr_fault b (evlrs_at b) (points_end b) (evlr_count b) ≡ None → IsLaid b
 unfolding rest IsLaid
 laid b header vlrs small evlrs =
-    fault-rest b header ∙ rw (vlrs, within (points_end b) (length b) (missing_points (points_end b) (length b)) small, evlrs) refl
+    fault-rest b header ∙ rw (vlrs, within (points_end b) (length b) (Points (points_end b) (length b)) small, evlrs) refl
 
 -- the conditions that a file without a fault meets
 pub record IsSound (b : List ℕ) : Type 0 where
@@ -72,31 +75,31 @@ pub record IsSound (b : List ℕ) : Type 0 where
   pub after : header_size b ≤ points_at b
   pub points : points_end b ≤ length b
 
-none-each : (faults : List (Option Fault)) (i : ℕ) → first_fault faults ≡ None → get_or faults i None ≡ None
+none-each : (faults : List (Option SurveyFault)) (i : ℕ) → first_fault faults ≡ None → get_or faults i None ≡ None
 none-each [] i none = refl
 none-each (None ∷ faults) zero none = refl
 none-each (None ∷ faults) (suc i) none = none-each faults i none
 none-each (Some f ∷ faults) i none = absurd (cc none)
 
-met : (t : Bool) (f : Fault) → unless t f ≡ None → t ≡ true
+met : (t : Bool) (f : SurveyFault) → unless t f ≡ None → t ≡ true
 met true f none = refl
 met false f none = absurd (cc none)
 
-at_least : (a n : ℕ) (f : Fault) → unless (nat_le a n) f ≡ None → a ≤ n
+at_least : (a n : ℕ) (f : SurveyFault) → unless (nat_le a n) f ≡ None → a ≤ n
 at_least a n f none = let t : nat_le a n ≡ true = met (nat_le a n) f none in grind (arith, nat_tests)
 
 pub laid-sound : (b : List ℕ) → IsLaid b → IsSound b
 unfolding IsLaid fault header_faults
 laid-sound b none =
-    let all : List (Option Fault) = header_faults b ++ vlr_fault b (header_size b) (points_at b) (vlr_count b)
-    ∷ unless (nat_le (points_end b) (length b)) (missing_points (points_end b) (length b))
+    let all : List (Option SurveyFault) = header_faults b ++ vlr_fault b (header_size b) (points_at b) (vlr_count b)
+    ∷ unless (nat_le (points_end b) (length b)) (Points (points_end b) (length b))
     ∷ evlr_fault b (evlrs_at b) (points_end b) (evlr_count b)
     ∷ [] in
     record {
-      known = at_least (format_of b) 10 (unknown_format (format_of b)) (none-each all 6 none);
-      fitting = at_least (least_length (format_of b)) (record_length b) (short_record (record_length b) (least_length (format_of b))) (none-each all 7 none);
-      after = at_least (header_size b) (points_at b) (early_points (points_at b)) (none-each all 8 none);
-      points = at_least (points_end b) (length b) (missing_points (points_end b) (length b)) (none-each all 10 none);
+      known = at_least (format_of b) 10 (Header (Format (format_of b))) (none-each all 6 none);
+      fitting = at_least (least_length (format_of b)) (record_length b) (Header (RecordLength (record_length b) (least_length (format_of b)))) (none-each all 7 none);
+      after = at_least (header_size b) (points_at b) (Header (Offset (points_at b))) (none-each all 8 none);
+      points = at_least (points_end b) (length b) (Points (points_end b) (length b)) (none-each all 10 none);
     }
 
 -- the least record length of each format is 20 or more

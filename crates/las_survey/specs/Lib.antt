@@ -1,5 +1,3 @@
-pub mod Fault
-pub mod FaultText
 pub mod Kept
 pub mod Loading
 pub mod Refusal

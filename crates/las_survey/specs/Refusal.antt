@@ -1,10 +1,10 @@
 -- What a load answers for a fault of the header or of a variable length record.
-use Rattle.las_header.specs.declared.fault.HeaderFault.{HeaderFault}
+use Rattle.view_base.specs.declared.fault.HeaderFault.{HeaderFault}
 use Rattle.las_vlr.specs.declared.vlrs.VlrFault.{VlrFault}
 use Rattle.las_vlr.specs.declared.vlrs.VlrFault.TheVariants as vlr
 use Rattle.las_vlr.specs.declared.evlrs.EvlrFault.{EvlrFault}
 use Rattle.las_vlr.specs.declared.evlrs.EvlrFault.TheVariants as evlr
-use Rattle.las_survey.specs.declared.fault.SurveyFault.TheVariants.{Header, Vlr, Evlr}
+use Rattle.view_base.specs.declared.fault.SurveyFault.TheVariants.{Header, Vlr, Evlr}
 use Rattle.las_survey.specs.declared.loading.LoadFault.{LoadFault}
 use Rattle.las_survey.specs.declared.loading.LoadFault.TheVariants.{Survey, Memory}
 

@@ -2,7 +2,6 @@
 //! survey is, and beside them the header's fields and the places of its variable length records.
 #![tactic(auto)]
 
-mod fault;
 #[cfg(test)]
 mod limit_tests;
 mod loading;
@@ -14,8 +13,8 @@ mod tests;
 #[cfg(test)]
 mod version_tests;
 
-pub use fault::SurveyFault;
-pub use las_header::{Header, HeaderFault};
+pub use las_header::Header;
 pub use las_vlr::{VlrList, VlrPlace};
 pub use loading::{LoadFault, load};
 pub use survey::Survey;
+pub use view_base::{HeaderFault, SurveyFault};

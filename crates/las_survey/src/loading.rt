@@ -1,16 +1,13 @@
 ghost use Rattle.std.specs.Prelude.{◌≡◌, ℕ, ◌+◌, ◌^◌, ◌≤◌, ◌<◌, [], List, length, Some, IfOk, IfSome, IsErrOf};
-ghost use Rattle.las_survey.specs.Fault.{fault_of};
 ghost use Rattle.las_survey.specs.Loading.{TookAll};
 ghost use Rattle.view_ends.specs.Ends.{Rose};
 ghost use Rattle.view_meaning.specs.Layout as layout;
 ghost use Rattle.view_meaning.specs.Layout.{IsLaid};
 
-use crate::fault::SurveyFault;
 use crate::survey::Survey;
-use las_header::HeaderFault;
 use las_vlr::{EvlrFault, VlrFault};
 use std::alloc::Global;
-use view_base::{Bytes, OutOfMemory};
+use view_base::{Bytes, HeaderFault, OutOfMemory, SurveyFault};
 use view_ends::{Failed, Source};
 
 /// The most bytes that a survey may have.
@@ -95,7 +92,7 @@ pub fn load<S: Source>(alloc: Global, source: &mut S) -> Result<Survey, LoadFaul
     ensures survey { (fault : SurveyFault) → IsErrOf result (LoadFault.Survey fault)
         → (bytes : List ℕ) × (length bytes ≤ LIMIT)
         × TookAll (S.left source.old) (S.taken source.old) bytes (S.left source.new) (S.taken source.new)
-        × (layout.fault bytes ≡ Some (fault_of fault)) }
+        × (layout.fault bytes ≡ Some fault) }
     ensures calm { (IsErrOf result LoadFault.ReadFault → ⊥) → S.faults source.new ≡ S.faults source.old }
     ensures later { S.faults source.old ≤ S.faults source.new }
     ensures few { S.taken source.new ≤ S.taken source.old + (LIMIT + 1) }

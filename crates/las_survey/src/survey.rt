@@ -1,17 +1,15 @@
 ghost use Rattle.std.specs.Prelude.{◌≡◌, ◌+◌, ◌*◌, ◌^◌, ◌<◌, ◌≤◌, length, take, drop, Some, IfOk, IsErrOf};
-ghost use Rattle.las_survey.specs.Fault.{fault_of};
 ghost use Rattle.las_vlr.specs.Places.{vlr_places, evlr_places};
 ghost use Rattle.view_meaning.specs.Layout as layout;
 ghost use Rattle.view_meaning.specs.Layout.{IsLaid, least_length};
 ghost use Rattle.view_meaning.specs.Survey.{header_size, points_at, vlr_count, evlrs_at, evlr_count, format_of, record_at, record_count, record_length, points_end};
 
-use crate::fault::SurveyFault;
 use crate::loading::LoadFault;
 use las_header::{Header, read_header};
 use las_vlr::{VlrList, walk_evlrs, walk_vlrs};
 use std::alloc::Global;
 use std::marker::Model;
-use view_base::Bytes;
+use view_base::{Bytes, SurveyFault};
 
 /// The bytes of a file that is laid out as a survey. Contracts see it as the list of its bytes;
 /// the type keeps that they are laid out so and at most 2^30.
@@ -42,7 +40,7 @@ impl Survey {
         requires short { length bytes.items ≤ 2 ^ 30 }
         ensures same { IfOk result (λ survey. survey ≡ bytes.items) }
         ensures laid { IfOk result IsLaid }
-        ensures survey { (fault : SurveyFault) → IsErrOf result (LoadFault.Survey fault) → layout.fault bytes.items ≡ Some (fault_of fault) }
+        ensures survey { (fault : SurveyFault) → IsErrOf result (LoadFault.Survey fault) → layout.fault bytes.items ≡ Some fault }
         ensures read_fault { IsErrOf result LoadFault.ReadFault → ⊥ }
         ensures too_long { IsErrOf result LoadFault.TooLong → ⊥ }
     {

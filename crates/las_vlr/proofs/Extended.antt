@@ -2,7 +2,8 @@
 use Rattle.std.proofs.Common.{◌≡◌, ℕ, ◌+◌, ◌*◌, ◌≤◌, ◌<◌, List, [], ◌∷◌, ◌++◌, length, true, false, refl, ap, sym, ◌∙◌, arith, Some, None, add-one}
 use Rattle.std.proofs.lemmas.Bool.Decides.{nat_tests}
 use Rattle.std.proofs.lemmas.List.FromFn.{map-range_with_len_more, length-map-range_with_len}
-use Rattle.view_meaning.specs.Layout.{evlr_at, evlr_fits, evlr_fault, unfit_evlr}
+use Rattle.view_base.specs.declared.fault.SurveyFault.TheVariants.{Evlr}
+use Rattle.view_meaning.specs.Layout.{evlr_at, evlr_fits, evlr_fault}
 use Rattle.view_meaning.specs.Survey.{u64_at}
 use Rattle.las_vlr.specs.declared.place.VlrPlace.{VlrPlace}
 use Rattle.las_vlr.specs.Places.{evlr_place, evlr_places}
@@ -67,12 +68,12 @@ walked_few b first points_end k at places walked =
 pub walked_all : (b : List ℕ) (first points_end count at : ℕ) (places : List VlrPlace) → IsWalkedFar b first points_end count at places
     → evlr_fault b first points_end count ≡ None
 unfolding evlr_fault
-walked_all b first points_end count at places walked = first_fault-none (evlr_fits b first points_end) (λ k. unfit_evlr k (evlr_at b first k)) count walked.fit
+walked_all b first points_end count at places walked = first_fault-none (evlr_fits b first points_end) (λ k. Evlr k (evlr_at b first k)) count walked.fit
 
 -- the next does not fit
 pub walked_stop : (b : List ℕ) (first points_end count k at : ℕ) (places : List VlrPlace) → IsWalkedFar b first points_end k at places → k < count
-    → (points_end ≤ at → length b < at + 60 + u64_at b (at + 20)) → evlr_fault b first points_end count ≡ Some (unfit_evlr k at)
+    → (points_end ≤ at → length b < at + 60 + u64_at b (at + 20)) → evlr_fault b first points_end count ≡ Some (Evlr k at)
 unfolding evlr_fault
 walked_stop b first points_end count k at places walked below beyond =
-    first_fault-some (evlr_fits b first points_end) (λ i. unfit_evlr i (evlr_at b first i)) count k walked.fit below (evlr_fits-not b first points_end k at walked.here beyond)
-    ∙ ap (λ (m : ℕ). Some (unfit_evlr k m)) (sym walked.here)
+    first_fault-some (evlr_fits b first points_end) (λ i. Evlr i (evlr_at b first i)) count k walked.fit below (evlr_fits-not b first points_end k at walked.here beyond)
+    ∙ ap (λ (m : ℕ). Some (Evlr k m)) (sym walked.here)

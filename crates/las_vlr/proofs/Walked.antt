@@ -2,7 +2,8 @@
 use Rattle.std.proofs.Common.{◌≡◌, ℕ, ◌+◌, ◌*◌, ◌≤◌, ◌<◌, List, [], ◌∷◌, ◌++◌, length, min, true, false, refl, ap, sym, ◌∙◌, arith, Some, None, add-one}
 use Rattle.std.proofs.lemmas.Bool.Decides.{nat_tests}
 use Rattle.std.proofs.lemmas.List.FromFn.{map-range_with_len_more, length-map-range_with_len}
-use Rattle.view_meaning.specs.Layout.{vlr_at, vlr_fits, vlr_fault, unfit_vlr}
+use Rattle.view_base.specs.declared.fault.SurveyFault.TheVariants.{Vlr}
+use Rattle.view_meaning.specs.Layout.{vlr_at, vlr_fits, vlr_fault}
 use Rattle.view_meaning.specs.Survey.{u16_at}
 use Rattle.las_vlr.specs.declared.place.VlrPlace.{VlrPlace}
 use Rattle.las_vlr.specs.Places.{vlr_place, vlr_places}
@@ -62,12 +63,12 @@ walked_few b first end k at places walked =
 -- all of them fit
 pub walked_all : (b : List ℕ) (first end count at : ℕ) (places : List VlrPlace) → IsWalked b first end count at places → vlr_fault b first end count ≡ None
 unfolding vlr_fault
-walked_all b first end count at places walked = first_fault-none (vlr_fits b first end) (λ k. unfit_vlr k (vlr_at b first k)) count walked.fit
+walked_all b first end count at places walked = first_fault-none (vlr_fits b first end) (λ k. Vlr k (vlr_at b first k)) count walked.fit
 
 -- the next does not fit
 pub walked_stop : (b : List ℕ) (first end last count k at : ℕ) (places : List VlrPlace) → IsWalked b first end k at places → last ≡ min end (length b)
-    → k < count → last < at + 54 + u16_at b (at + 20) → vlr_fault b first end count ≡ Some (unfit_vlr k at)
+    → k < count → last < at + 54 + u16_at b (at + 20) → vlr_fault b first end count ≡ Some (Vlr k at)
 unfolding vlr_fault
 walked_stop b first end last count k at places walked last_is below beyond =
-    first_fault-some (vlr_fits b first end) (λ i. unfit_vlr i (vlr_at b first i)) count k walked.fit below (vlr_fits-not b first end k at walked.here (omega arith))
-    ∙ ap (λ (m : ℕ). Some (unfit_vlr k m)) (sym walked.here)
+    first_fault-some (vlr_fits b first end) (λ i. Vlr i (vlr_at b first i)) count k walked.fit below (vlr_fits-not b first end k at walked.here (omega arith))
+    ∙ ap (λ (m : ℕ). Some (Vlr k m)) (sym walked.here)

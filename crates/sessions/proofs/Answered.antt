@@ -17,8 +17,8 @@ use Rattle.view_lines.specs.declared.refusal.Refusal.{Refusal}
 use Rattle.version_store.specs.declared.history.Entry.{Entry}
 use Rattle.version_store.specs.Histories.{journal}
 use Rattle.version_store.specs.Sharing.{changed_by_last}
-use Rattle.sessions.specs.Lines.{Item, LINE, without_cr, items_of}
-use Rattle.sessions.specs.Replies.{version, head, with_length, reply}
+use Rattle.sessions.specs.declared.pending.TheConstants.{LINE}
+use Rattle.sessions.specs.Session.{Item, without_cr, items_of, version, head, with_length, reply}
 use Rattle.sessions.specs.Talk.{Talk, Stays, Adds, Answered, AnsweredAll, last_mark, last_reply}
 use Rattle.sessions.proofs.Calls.{IsShown, IsPublished, makes_view, makes_count, makes_save, shown_adds, version_shown, published_adds, version_published, refused_adds}
 use Rattle.sessions.proofs.Replying.{last_mark-push}
@@ -159,12 +159,12 @@ items-wordless f line cut None few same none wordless =
 
 -- a line of which a word was found is one item
 pub items-one : (f format : ℕ) (line cut : List ℕ) (found : Option (ℕ × ℕ)) (read item : Item) → length line ≤ LINE → cut ≡ without_cr line → is_none found ≡ false
-    → IfSome found (λ p. words (drop 0 cut) ≡ slice_range cut p.0 p.1 ∷ words (drop p.1 cut)) → format ≡ f → read ≡ command_of cut format → read ≡ item → items_of f line ≡ item ∷ []
+    → IfSome found (λ p. words (drop 0 cut) ≡ slice_range cut p.0 p.1 ∷ words (drop p.1 cut)) → format ≡ f → read ≡ command_of (words cut) format → read ≡ item → items_of f line ≡ item ∷ []
 unfolding items_of
 items-one f format line cut None read item few same some wordy fits is answer = absurd (true≢false some)
 items-one f format line cut (Some p) read item few same some wordy fits is answer =
     let words_are : words (without_cr line) ≡ slice_range cut p.0 p.1 ∷ words (drop p.1 cut) = ap words (sym same) ∙ wordy in
-    let command : command_of (without_cr line) f ≡ item = ap (λ (l : List ℕ). command_of l f) (sym same) ∙ ap (λ (n : ℕ). command_of cut n) (sym fits) ∙ sym is ∙ answer in
+    let command : command_of (words (without_cr line)) f ≡ item = ap (λ (l : List ℕ). command_of (words l) f) (sym same) ∙ ap (λ (n : ℕ). command_of (words cut) n) (sym fits) ∙ sym is ∙ answer in
     let some_words : length (words (without_cr line)) ≢ 0 = let n = ap length words_are in omega (arith, n) in
     rw (le-leb (length line) LINE few, ne_eqb (length (words (without_cr line))) 0 some_words, command) refl
 

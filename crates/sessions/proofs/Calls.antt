@@ -14,9 +14,7 @@ use Rattle.version_store.specs.Histories.{journal, numbered, entries_by}
 use Rattle.version_store.specs.Sharing.{IsOwn, MakesOne, MakesNone}
 use Rattle.version_store.specs.Store.{Pinned}
 use Rattle.version_store.proofs.SharedCalls.{entries_by-made, entries_by-refused}
-use Rattle.sessions.specs.Lines.{Item}
-use Rattle.sessions.specs.Replies.{version}
-use Rattle.sessions.specs.Session.{Makes}
+use Rattle.sessions.specs.Session.{Item, version, Makes}
 use Rattle.sessions.specs.Talk.{Made, Adds, last_mark}
 use Rattle.sessions.proofs.Later.{journal-later}
 use Rattle.sessions.proofs.News.{length-journal_later}

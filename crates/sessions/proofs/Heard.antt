@@ -10,7 +10,8 @@ use Rattle.view_meaning.specs.Survey.{format_of}
 use Rattle.view_base.specs.Text.{words}
 use Rattle.view_lines.specs.declared.refusal.Refusal.TheVariants.{Line}
 use Rattle.version_store.specs.declared.history.Entry.{Entry}
-use Rattle.sessions.specs.Lines.{Item, LINE, is_lf, without_cr, item_of_words, items_of, commands, whole, rest}
+use Rattle.sessions.specs.declared.pending.TheConstants.{LINE}
+use Rattle.sessions.specs.Session.{Item, is_lf, without_cr, item_of_words, items_of, commands, whole, rest}
 use Rattle.sessions.specs.declared.pending.Pending.{Pending}
 use Rattle.sessions.specs.Talk.{Talk, Start, IsAnswering, Answered, AnsweredAll, GaveUp}
 use Rattle.sessions.specs.Hearing.{HasHeard, IsPending}

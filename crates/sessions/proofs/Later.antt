@@ -16,9 +16,7 @@ use Rattle.version_store.proofs.HistoryLaws.{journal-append}
 use Rattle.version_store.proofs.SharedCalls.{entries_by-later}
 use Rattle.sessions.specs.declared.end.Reason.{Reason}
 use Rattle.sessions.specs.declared.end.Reason.TheVariants.{Finished, ReadFault, SessionLimit, WriteFault, Memory}
-use Rattle.sessions.specs.Lines.{Item}
-use Rattle.sessions.specs.Replies.{version, head, with_length, reply, replies}
-use Rattle.sessions.specs.Session.{GotMost, Got, Served}
+use Rattle.sessions.specs.Session.{Item, version, head, with_length, reply, replies, GotMost, Got, Served}
 use Rattle.sessions.specs.Worlds.{HasGivenBack}
 use Rattle.sessions.proofs.News.{news-same}
 use Rattle.sessions.proofs.Tales.{AreWithin, tale_within}

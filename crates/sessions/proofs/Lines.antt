@@ -9,7 +9,7 @@ use Rattle.std.proofs.lemmas.List.Quantifiers.{position-Some}
 use Rattle.std.proofs.lemmas.List.Sums.{fails_before_first}
 use Rattle.std.proofs.lemmas.List.Splits.{slice_split_none}
 use Rattle.std.proofs.Math.Seq.{drop-cons, take-append_seam, get_or-append_seam}
-use Rattle.sessions.specs.Lines.{is_lf, lines, rest, items_of, commands}
+use Rattle.sessions.specs.Session.{is_lf, lines, rest, items_of, commands}
 
 -- a text has no LF
 abbrev pub IsUnbroken : List ℕ → Type 0

@@ -6,7 +6,7 @@ use Rattle.view_ends.specs.declared.fault.EndFault.{EndFault}
 use Rattle.view_meaning.specs.Classes.{saved}
 use Rattle.las_write.proofs.Fronts.{part_of_first, part_of_second}
 use Rattle.las_write.proofs.Saved.{saved-length}
-use Rattle.sessions.specs.Replies.{head, with_length}
+use Rattle.sessions.specs.Session.{head, with_length}
 
 -- the reply to a save is its head line and the file
 pub file_parts : (b cs bytes start : List ℕ) (v : ℕ) → bytes ≡ b → start ≡ head (codes "FILE") v (length bytes) → start ++ saved b cs ≡ with_length (codes "FILE") v (saved b cs)

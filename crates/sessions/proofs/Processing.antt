@@ -1,10 +1,15 @@
 -- What a session may have processed is known by its length.
 use Rattle.std.proofs.Common.{◌≡◌, ℕ, ◌≤◌, min, List, length, take, sym, ap, ◌∙◌, inl, inr, arith}
+use Rattle.std.specs.Prelude.{◌⊎◌}
 use Rattle.std.proofs.lemmas.List.{length-take, take_all, take_min, take-append-le}
+use Rattle.sessions.specs.declared.serving.TheConstants.{INPUT_LIMIT}
 use Rattle.sessions.specs.declared.end.Reason as reason
 use Rattle.sessions.specs.declared.end.Reason.TheVariants.{Finished, ReadFault, SessionLimit, WriteFault, Memory}
-use Rattle.sessions.specs.Lines.{Item, commands, whole}
-use Rattle.sessions.specs.Session.{LIMIT, AreFirstOf, MayProcess, Processed}
+use Rattle.sessions.specs.Session.{Item, commands, whole, MayProcess, Processed}
+
+-- the first items of a text that began an input, or of the whole input where the text is all of it
+abbrev pub AreFirstOf : ℕ → List ℕ → List ℕ → List Item → Type 0
+AreFirstOf format input text items = (k : ℕ) × ((items ≡ take k (commands format text)) ⊎ ((text ≡ input) × (items ≡ take k (whole format input))))
 
 -- a front of a list is known by its length
 front_is : (k : ℕ) (items all : List Item) → items ≡ take k all → items ≡ take (length items) all
@@ -44,5 +49,5 @@ may_front format input text items Memory h = of_either format input text items h
 pub processed_one : (format : ℕ) (input : List ℕ) (taken : ℕ) (reason : reason.Reason) (items others : List Item) → length items ≡ length others
     → Processed format input taken reason items → Processed format input taken reason others → items ≡ others
 processed_one format input taken reason items others same h other =
-    let text = take (min taken LIMIT) input in
+    let text = take (min taken INPUT_LIMIT) input in
     may_front format input text items reason h.items_are ∙ ap (λ n. take n (whole format text)) same ∙ sym (may_front format input text others reason other.items_are)

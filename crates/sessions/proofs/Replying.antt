@@ -8,9 +8,7 @@ use Rattle.view_ends.specs.Ends.{Gains, GainsPart}
 use Rattle.view_meaning.specs.Classes as meaning
 use Rattle.version_store.specs.declared.history.Entry.{Entry}
 use Rattle.version_store.specs.Histories.{journal, numbered, entries_by}
-use Rattle.sessions.specs.Lines.{Item}
-use Rattle.sessions.specs.Replies.{reply, replies}
-use Rattle.sessions.specs.Session.{GotMost}
+use Rattle.sessions.specs.Session.{Item, reply, replies, GotMost}
 use Rattle.sessions.specs.Talk.{Talk, Start, Made, Stays, Adds, HasProcessed, IsAnswering, GaveUp, AnsweredAll, last_mark, last_reply}
 use Rattle.sessions.proofs.Later.{journal-later, replies-later}
 use Rattle.sessions.proofs.Tales.{tale_within, tale_length, tale_more, tale_stays, tale_nothing}

@@ -7,18 +7,18 @@ use Rattle.view_ends.specs.declared.fault.EndFault.{EndFault}
 use Rattle.view_ends.specs.declared.fault.EndFault.TheVariants as fault
 use Rattle.view_meaning.specs.Classes as meaning
 use Rattle.view_meaning.specs.Survey.{format_of}
+use Rattle.sessions.specs.declared.serving.TheConstants.{INPUT_LIMIT}
 use Rattle.sessions.specs.declared.end.Reason.{Reason}
 use Rattle.sessions.specs.declared.end.Reason.TheVariants.{Finished, ReadFault, SessionLimit, Memory}
 use Rattle.sessions.specs.declared.pending.Pending.{Pending}
-use Rattle.sessions.specs.Lines.{Item, commands, whole}
+use Rattle.sessions.specs.Session.{Item, commands, whole, replies, MayProcess, Makes, GotMost, Got, Served}
 use Rattle.version_store.specs.declared.history.Entry.{Entry}
 use Rattle.version_store.specs.Histories.{journal}
-use Rattle.sessions.specs.Replies.{replies}
-use Rattle.sessions.specs.Session.{LIMIT, AreFirstOf, MayProcess, Makes, GotMost, Got, Served}
 use Rattle.sessions.specs.Talk.{Talk, Start, IsAnswering, GaveUp}
 use Rattle.sessions.specs.Hearing.{HasHeard}
 use Rattle.sessions.specs.Listening.{Listened, reason_of}
 use Rattle.sessions.specs.Worlds.{HasGivenBack}
+use Rattle.sessions.proofs.Processing.{AreFirstOf}
 use Rattle.sessions.proofs.Processing.{processed_one}
 use Rattle.sessions.proofs.News.{drop-numbered}
 use Rattle.sessions.proofs.Later.{take_begun}
@@ -45,16 +45,16 @@ leaves_more (Some all) mid now t s h more =
 
 -- the part of an input that a session may process
 abbrev within : List ℕ → ℕ → List ℕ
-within input taken = take (min taken LIMIT) input
+within input taken = take (min taken INPUT_LIMIT) input
 
-within_is : (t rest : List ℕ) (taken : ℕ) → min taken LIMIT ≡ length t → within (t ++ rest) taken ≡ t
+within_is : (t rest : List ℕ) (taken : ℕ) → min taken INPUT_LIMIT ≡ length t → within (t ++ rest) taken ≡ t
 within_is t rest taken h = rw h (take-append_seam t rest)
 
-within_all : (t : List ℕ) (taken : ℕ) → length t ≡ taken → taken ≤ LIMIT → within t taken ≡ t
-within_all t taken many few = take_all (min taken LIMIT) t (omega arith)
+within_all : (t : List ℕ) (taken : ℕ) → length t ≡ taken → taken ≤ INPUT_LIMIT → within t taken ≡ t
+within_all t taken many few = take_all (min taken INPUT_LIMIT) t (omega arith)
 
 -- its input failed
-pub listened_fault : (b t : List ℕ) (talk : Talk) (pending : Pending) (start : Start) (left mid now : Option (List ℕ)) (taken : ℕ) → length t ≡ taken → taken ≤ LIMIT → Leaves left t mid → HasHeard b t talk pending start now → Listened b talk start left now ReadFault taken
+pub listened_fault : (b t : List ℕ) (talk : Talk) (pending : Pending) (start : Start) (left mid now : Option (List ℕ)) (taken : ℕ) → length t ≡ taken → taken ≤ INPUT_LIMIT → Leaves left t mid → HasHeard b t talk pending start now → Listened b talk start left now ReadFault taken
 listened_fault b t talk pending start left mid now taken many few taken_off h =
     let told = told_input left mid t taken_off in
     record {
@@ -72,7 +72,7 @@ listened_fault b t talk pending start left mid now taken many few taken_off h =
     }
 
 -- its input has too many bytes
-pub listened_limit : (b t more : List ℕ) (talk : Talk) (pending : Pending) (start : Start) (left mid now : Option (List ℕ)) (taken : ℕ) → length t ≡ LIMIT → length more ≡ 1 → taken ≡ LIMIT + 1 → Leaves left (t ++ more) mid → HasHeard b t talk pending start now → Listened b talk start left now SessionLimit taken
+pub listened_limit : (b t more : List ℕ) (talk : Talk) (pending : Pending) (start : Start) (left mid now : Option (List ℕ)) (taken : ℕ) → length t ≡ INPUT_LIMIT → length more ≡ 1 → taken ≡ INPUT_LIMIT + 1 → Leaves left (t ++ more) mid → HasHeard b t talk pending start now → Listened b talk start left now SessionLimit taken
 listened_limit b t more talk pending start left mid now taken many one past taken_off h =
     let told = told_input left mid (t ++ more) taken_off in
     record {
@@ -90,7 +90,7 @@ listened_limit b t more talk pending start left mid now taken many one past take
     }
 
 -- its input was read to the end, and each line was answered
-listened_end : (b t : List ℕ) (talk : Talk) (start : Start) (left mid now : Option (List ℕ)) (taken : ℕ) → length t ≡ taken → taken ≤ LIMIT → Leaves left t mid → IsSpent mid → IsAnswering b (whole (format_of b) t) talk start now → Listened b talk start left now Finished taken
+listened_end : (b t : List ℕ) (talk : Talk) (start : Start) (left mid now : Option (List ℕ)) (taken : ℕ) → length t ≡ taken → taken ≤ INPUT_LIMIT → Leaves left t mid → IsSpent mid → IsAnswering b (whole (format_of b) t) talk start now → Listened b talk start left now Finished taken
 listened_end b t talk start left mid now taken many few taken_off ended h = record {
   input = t;
   items = whole (format_of b) t;
@@ -119,7 +119,7 @@ no_limit fault.Failed e = absurd cc
 no_limit fault.Memory e = absurd cc
 
 -- a reply of a line that ended was not given
-listened_gave_up : (b t : List ℕ) (talk : Talk) (start : Start) (left mid now : Option (List ℕ)) (taken : ℕ) (why : EndFault) → length t ≡ taken → taken ≤ LIMIT → Leaves left t mid → GaveUp b (commands (format_of b) t) talk start now → Listened b talk start left now (reason_of (Err why)) taken
+listened_gave_up : (b t : List ℕ) (talk : Talk) (start : Start) (left mid now : Option (List ℕ)) (taken : ℕ) (why : EndFault) → length t ≡ taken → taken ≤ INPUT_LIMIT → Leaves left t mid → GaveUp b (commands (format_of b) t) talk start now → Listened b talk start left now (reason_of (Err why)) taken
 listened_gave_up b t talk start left mid now taken why many few taken_off h =
     let told = told_input left mid t taken_off in
     let items = take h.count (commands (format_of b) t) in
@@ -139,7 +139,7 @@ listened_gave_up b t talk start left mid now taken why many few taken_off h =
     }
 
 -- the reply of the last line was not given
-last_gave_up : (b t : List ℕ) (talk : Talk) (start : Start) (left mid now : Option (List ℕ)) (taken : ℕ) (why : EndFault) → length t ≡ taken → taken ≤ LIMIT → Leaves left t mid → IsSpent mid → GaveUp b (whole (format_of b) t) talk start now → Listened b talk start left now (reason_of (Err why)) taken
+last_gave_up : (b t : List ℕ) (talk : Talk) (start : Start) (left mid now : Option (List ℕ)) (taken : ℕ) (why : EndFault) → length t ≡ taken → taken ≤ INPUT_LIMIT → Leaves left t mid → IsSpent mid → GaveUp b (whole (format_of b) t) talk start now → Listened b talk start left now (reason_of (Err why)) taken
 last_gave_up b t talk start left mid now taken why many few taken_off ended h = record {
   input = t;
   items = take h.count (whole (format_of b) t);
@@ -155,7 +155,7 @@ last_gave_up b t talk start left mid now taken why many few taken_off ended h = 
 }
 
 -- its input was read to the end
-pub listened_last : (b t : List ℕ) (old talk : Talk) (pending : Pending) (start : Start) (left mid before now : Option (List ℕ)) (taken : ℕ) (result : Result (Unit {0}) EndFault) → length t ≡ taken → taken ≤ LIMIT → Leaves left t mid → IsSpent mid → HasHeard b t old pending start before
+pub listened_last : (b t : List ℕ) (old talk : Talk) (pending : Pending) (start : Start) (left mid before now : Option (List ℕ)) (taken : ℕ) (result : Result (Unit {0}) EndFault) → length t ≡ taken → taken ≤ INPUT_LIMIT → Leaves left t mid → IsSpent mid → HasHeard b t old pending start before
     → OnOk result ((t : List ℕ) → (start : Start) → HasHeard b t old pending start before → IsAnswering b (whole (format_of b) t) talk start now)
     → OnErr result ((t : List ℕ) → (start : Start) → HasHeard b t old pending start before → GaveUp b (whole (format_of b) t) talk start now)
     → Listened b talk start left now (reason_of result) taken
@@ -165,7 +165,7 @@ listened_last b t old talk pending start left mid before now taken (Err why) man
     last_gave_up b t talk start left mid now taken why many few taken_off ended (gave_up t start h)
 
 -- a piece of its input was not answered
-pub listened_piece : (b t piece : List ℕ) (old talk : Talk) (pending : Pending) (start : Start) (left mid after before now : Option (List ℕ)) (taken : ℕ) (result : Result (Unit {0}) EndFault) → is_err result ≡ true → length (t ++ piece) ≡ taken → taken ≤ LIMIT → Leaves left t mid → Leaves mid piece after → HasHeard b t old pending start before
+pub listened_piece : (b t piece : List ℕ) (old talk : Talk) (pending : Pending) (start : Start) (left mid after before now : Option (List ℕ)) (taken : ℕ) (result : Result (Unit {0}) EndFault) → is_err result ≡ true → length (t ++ piece) ≡ taken → taken ≤ INPUT_LIMIT → Leaves left t mid → Leaves mid piece after → HasHeard b t old pending start before
     → OnErr result ((t : List ℕ) → (start : Start) → HasHeard b t old pending start before → GaveUp b (commands (format_of b) (t ++ piece)) talk start now)
     → Listened b talk start left now (reason_of result) taken
 listened_piece b t piece old talk pending start left mid after before now taken (Ok done) failed many few taken_off more h gave_up = absurd cc

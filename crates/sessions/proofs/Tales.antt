@@ -15,8 +15,7 @@ use Rattle.version_store.specs.declared.history.What.{What}
 use Rattle.version_store.specs.declared.history.What.TheVariants.{Publish, Pin, Unpin}
 use Rattle.version_store.specs.declared.history.Entry.{Entry}
 use Rattle.version_store.specs.Histories.{journal, numbered, entries_by, is_pin, is_unpin, how_many}
-use Rattle.sessions.specs.Lines.{Item}
-use Rattle.sessions.specs.Session.{Makes}
+use Rattle.sessions.specs.Session.{Item, Makes}
 use Rattle.sessions.specs.Talk.{last_mark, IsTale}
 use Rattle.sessions.specs.Worlds.{HasGivenBack}
 use Rattle.sessions.proofs.News.{news, AreUpTo, drop-numbered, entries_by-news, news-more, news-same, news-up_to, length-journal_later}

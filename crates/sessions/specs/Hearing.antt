@@ -1,8 +1,9 @@
 -- A session part way through its input.
 use Rattle.std.specs.Prelude.{◌≡◌, ℕ, ◌+◌, ◌≤◌, ◌<◌, List, length, IsTrue, IsFalse, Option}
 use Rattle.view_meaning.specs.Survey.{format_of}
+use Rattle.sessions.specs.declared.pending.TheConstants.{LINE}
 use Rattle.sessions.specs.declared.pending.Pending.{Pending}
-use Rattle.sessions.specs.Lines.{LINE, commands, rest}
+use Rattle.sessions.specs.Session.{commands, rest}
 use Rattle.sessions.specs.Talk.{Talk, Start, IsAnswering}
 
 -- the part of a line that is kept: its bytes where they are few enough, else that they are too many

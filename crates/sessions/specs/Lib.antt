@@ -1,5 +1,3 @@
-pub mod Lines
-pub mod Replies
 pub mod Session
 pub mod Worlds
 pub mod Giving

@@ -6,9 +6,8 @@ use Rattle.view_ends.specs.declared.fault.EndFault.TheVariants as fault
 use Rattle.view_meaning.specs.Survey.{format_of}
 use Rattle.sessions.specs.declared.end.Reason as reason
 use Rattle.sessions.specs.declared.end.Reason.TheVariants.{Finished, ReadFault, WriteFault, Memory}
-use Rattle.sessions.specs.Lines.{Item}
+use Rattle.sessions.specs.Session.{Item, Processed, Got}
 use Rattle.version_store.specs.Histories.{journal}
-use Rattle.sessions.specs.Session.{Processed, Got}
 use Rattle.sessions.specs.Talk.{Talk, Start, HasProcessed}
 
 -- why a session ended whose last replies went so

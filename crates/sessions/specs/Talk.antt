@@ -9,9 +9,7 @@ use Rattle.view_lines.specs.declared.command.Command.{Command}
 use Rattle.version_store.specs.declared.history.Entry.{Entry}
 use Rattle.version_store.specs.Histories.{journal, numbered, entries_by}
 use Rattle.version_store.specs.Sharing.{IsOwn}
-use Rattle.sessions.specs.Lines.{Item}
-use Rattle.sessions.specs.Replies.{reply, replies}
-use Rattle.sessions.specs.Session.{Makes, GotMost}
+use Rattle.sessions.specs.Session.{Item, reply, replies, Makes, GotMost}
 
 -- its pass, and the marks of the items that it processed
 pub record Talk : Type 0 where

@@ -7,7 +7,7 @@ ghost use Rattle.turn_gate.specs.Meaning.{Passed};
 ghost use Rattle.version_store.specs.declared.history.Entry.{Entry};
 ghost use Rattle.view_lines.specs.declared.command.Command.TheVariants as command;
 ghost use Rattle.view_lines.specs.Command.{FitsFormat};
-ghost use Rattle.sessions.specs.Lines.{items_of, without_cr};
+ghost use Rattle.sessions.specs.Session.{items_of, without_cr};
 ghost use Rattle.sessions.specs.Talk.{IsReady, Answered, AnsweredAll, talk_of};
 ghost use Rattle.sessions.specs.Giving.{Gave};
 ghost use Rattle.sessions.specs.Worlds.{IsWorld};

@@ -1,5 +1,5 @@
 ghost use Rattle.std.specs.Prelude.{◌≡◌, ◌+◌, ◌≤◌, ◌++◌, length, codes, decimal};
-ghost use Rattle.sessions.specs.Replies.{head};
+ghost use Rattle.sessions.specs.Session.{head};
 
 use view_base::Bytes;
 

@@ -2,7 +2,7 @@ ghost use Rattle.std.specs.Prelude.{◌≡◌, ◌++◌, [], List, ℕ, OnOk, On
 ghost use Rattle.std.specs.Arc.{arc_value};
 ghost use Rattle.view_meaning.specs.Survey.{format_of};
 ghost use Rattle.std.specs.List.{position};
-ghost use Rattle.sessions.specs.Lines.{is_lf, commands, whole, items_of};
+ghost use Rattle.sessions.specs.Session.{is_lf, commands, whole, items_of};
 ghost use Rattle.sessions.specs.Talk.{Start, IsReady, IsAnswering, AnsweredAll, GaveUp, talk_of};
 ghost use Rattle.sessions.specs.Hearing.{HasHeard, IsPending};
 ghost use Rattle.sessions.specs.Giving.{Gave};

@@ -6,7 +6,7 @@ ghost use Rattle.view_meaning.specs.Classes.{passing, saved};
 ghost use Rattle.view_meaning.specs.Picture.{can_colour, picture};
 ghost use Rattle.view_meaning.specs.Survey.{format_of, record_count};
 ghost use Rattle.sessions.specs.Giving.{Gave};
-ghost use Rattle.sessions.specs.Replies.{head, with_length};
+ghost use Rattle.sessions.specs.Session.{head, with_length};
 ghost use Rattle.sessions.specs.Worlds.{IsScene};
 
 use crate::counting::count_passing;

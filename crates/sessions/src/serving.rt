@@ -19,7 +19,7 @@ use version_store::Pass;
 use view_ends::{Beside, EndFault, Failed, Sink, Source};
 
 /// The most bytes of a session's input.
-const LIMIT: usize = 1 << 20;
+pub(crate) const INPUT_LIMIT: usize = 1 << 20;
 
 /// How many bytes are asked of a source at once.
 const PIECE: usize = 1 << 14;
@@ -114,7 +114,7 @@ fn listen<R: Threads + Wait + Sync, I: Source, O: Sink, B: Beside>(
     let mut piece = [0u8; PIECE];
     let mut taken = 0;
     loop {
-        let room = (LIMIT - taken).max(1).min(PIECE);
+        let room = (INPUT_LIMIT - taken).max(1).min(PIECE);
         match source.take(&mut piece[..room]) {
             Err(Failed) => return (Reason::ReadFault, taken as u64),
             Ok(0) => {
@@ -123,7 +123,7 @@ fn listen<R: Threads + Wait + Sync, I: Source, O: Sink, B: Beside>(
             }
             Ok(n) => {
                 taken += n;
-                if taken > LIMIT {
+                if taken > INPUT_LIMIT {
                     return (Reason::SessionLimit, taken as u64);
                 }
                 let heard = hear(

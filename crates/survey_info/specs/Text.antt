@@ -35,13 +35,9 @@ field_lines b =
     ++ line (codes "length ") (record_length b) ++ line (codes "records ") (record_count b) ++ line (codes "vlrs ") (vlr_count b)
     ++ line (codes "evlrs ") (evlr_count b) ++ line (codes "bytes ") (length b)
 
--- a coordinate after a space
-abbrev pub coordinate_text : ℤ → List ℕ
-coordinate_text z = codes " " ++ signed_decimal z
-
 -- X, Y and Z of a corner, each after a space
 unfoldable pub corner_text : Point → List ℕ
-corner_text p = coordinate_text p.x ++ coordinate_text p.y ++ coordinate_text p.z
+corner_text p = codes " " ++ signed_decimal p.x ++ codes " " ++ signed_decimal p.y ++ codes " " ++ signed_decimal p.z
 
 -- the line of a box, its least corner first, if there is one
 unfoldable pub box_line : Option Box3 → List ℕ

@@ -1,6 +1,6 @@
-ghost use Rattle.std.specs.Prelude.{◌≡◌, ◌≤◌, ◌+◌, ◌++◌, length, decimal, OnOk, OnErr};
+ghost use Rattle.std.specs.Prelude.{◌≡◌, ◌≤◌, ◌+◌, ◌++◌, length, codes, decimal, OnOk, OnErr};
 ghost use Rattle.std.specs.Fmt.{signed_decimal};
-ghost use Rattle.survey_info.specs.Text.{line, field_lines, coordinate_text, corner_text, box_line, class_line, class_lines, info_text};
+ghost use Rattle.survey_info.specs.Text.{line, field_lines, corner_text, box_line, class_line, class_lines, info_text};
 
 use crate::summary::Summary;
 use las_survey::Survey;
@@ -101,7 +101,7 @@ fn append_corner(out: &mut Bytes, corner: Point)
 #[tactic(auto, using(view_base::proofs::Decimals::length_signed_decimal))]
 fn append_coordinate(out: &mut Bytes, number: i32)
     requires { 12 ≤ out.old.spare }
-    ensures appended { out.new.items ≡ out.old.items ++ coordinate_text number }
+    ensures appended { out.new.items ≡ out.old.items ++ codes " " ++ signed_decimal number }
     ensures room { out.old.spare ≤ out.new.spare + 12 }
 {
     out.append_within(b" ");

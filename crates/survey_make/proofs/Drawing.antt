@@ -4,7 +4,12 @@ use Rattle.std.specs.List.{range_with_len, flat_map}
 use Rattle.std.proofs.lemmas.Grind.{flat_map-append}
 use Rattle.std.proofs.lemmas.List.{append-nil, append_assoc}
 use Rattle.view_meaning.proofs.Nearest.{range_more}
-use Rattle.survey_make.specs.Made.{next, state, draw, record_bytes, made_record}
+use Rattle.survey_make.specs.declared.draws.TheConstants.{MULTIPLIER, INCREMENT}
+use Rattle.survey_make.specs.Made.{state, draw, record_bytes, made_record}
+
+-- the generator's state after a draw
+abbrev pub next : ℕ → ℕ
+next u = (MULTIPLIER * u + INCREMENT) % 2 ^ 64
 
 pub state-more : (start a b : ℕ) → state (state start a) b ≡ state start (a + b)
 unfolding state

@@ -6,7 +6,8 @@ use Rattle.std.proofs.lemmas.Nat.{from_le_bytes-to_le_bytes_2, from_le_bytes-to_
 use Rattle.view_meaning.specs.Survey.{u8_at, u16_at, u32_at, u64_at, minor_of, header_size, points_at, vlr_count, format_of, record_length, evlrs_at, evlr_count, record_count, points_end}
 use Rattle.std.specs.Prelude.{Bool, true, nat_eq, codes}
 use Rattle.std.proofs.lemmas.Bool.{le-leb, lt-ltb, ne_eqb}
-use Rattle.view_meaning.specs.Layout.{Fault, least_length, block_size, first_fault, unless, header_faults, vlr_fault, evlr_fault, fault, IsLaid}
+use Rattle.view_base.specs.declared.fault.SurveyFault.{SurveyFault}
+use Rattle.view_meaning.specs.Layout.{least_length, block_size, first_fault, unless, header_faults, vlr_fault, evlr_fault, fault, IsLaid}
 use Rattle.survey_make.specs.Made.{made, made_header, made_record, record_bytes, place_bytes, behind_class}
 
 signed : (start n f : ℕ) → starts_with nat_eq (made start n f) (codes "LASF") ≡ true
@@ -104,10 +105,10 @@ end-made start n f known fits =
     let size = lengths f known in
     rw ((read_sizes start n f).1, count-made start n f fits, read_length start n f (omega (arith, size.1)), length-made start n f known) refl
 
-unless-true : (holds : Bool) (fault : Fault) → holds ≡ true → unless holds fault ≡ None
+unless-true : (holds : Bool) (fault : SurveyFault) → holds ≡ true → unless holds fault ≡ None
 unless-true holds fault is = rw (is) refl
 
-none_of_12 : (a b d e f g h i j k l m : Option Fault) → a ≡ None → b ≡ None → d ≡ None → e ≡ None → f ≡ None → g ≡ None → h ≡ None → i ≡ None
+none_of_12 : (a b d e f g h i j k l m : Option SurveyFault) → a ≡ None → b ≡ None → d ≡ None → e ≡ None → f ≡ None → g ≡ None → h ≡ None → i ≡ None
     → j ≡ None → k ≡ None → l ≡ None → m ≡ None
     → first_fault (a ∷ b ∷ d ∷ e ∷ f ∷ g ∷ h ∷ i ∷ j ∷ k ∷ l ∷ m ∷ []) ≡ None
 none_of_12 a b d e f g h i j k l m pa pb pd pe pf pg ph pi pj pk pl pm = rw (pa, pb, pd, pe, pf, pg, ph, pi, pj, pk, pl, pm) refl

@@ -2,17 +2,14 @@
 use Rattle.std.specs.Prelude.{ℕ, zero, suc, ◌+◌, ◌*◌, ◌-◌, ◌/◌, ◌%◌, ◌^◌, List, [], ◌∷◌, ◌++◌, replicate, codes, Option, Some, None}
 use Rattle.std.specs.List.{range_with_len, flat_map}
 use Rattle.std.specs.Int.{to_le_bytes, w16, w32, w64}
+use Rattle.survey_make.specs.declared.draws.TheConstants.{MULTIPLIER, INCREMENT}
 use Rattle.view_meaning.specs.Survey.{class_place, rgb_place}
 use Rattle.view_meaning.specs.Layout.{least_length}
-
--- the generator's state after a draw
-abbrev pub next : ℕ → ℕ
-next u = (6364136223846793005 * u + 1442695040888963407) % 2 ^ 64
 
 -- the state after so many draws, where it was `start` at first
 unfoldable pub state : ℕ → ℕ → ℕ
 state start zero = start
-state start (suc k) = next (state start k)
+state start (suc k) = (MULTIPLIER * state start k + INCREMENT) % 2 ^ 64
 
 -- draw k, from 0: the upper half of the state after it
 unfoldable pub draw : ℕ → ℕ → ℕ

@@ -1,5 +1,10 @@
-ghost use Rattle.std.specs.Prelude.{◌≡◌, ◌/◌, ◌^◌};
-ghost use Rattle.survey_make.specs.Made.{next};
+ghost use Rattle.std.specs.Prelude.{◌≡◌, ◌+◌, ◌*◌, ◌/◌, ◌%◌, ◌^◌};
+
+/// The factor of a linear congruential generator modulo 2^64 (MMIX, Knuth).
+pub(crate) const MULTIPLIER: u64 = 6364136223846793005;
+
+/// What it adds.
+pub(crate) const INCREMENT: u64 = 1442695040888963407;
 
 /// A linear congruential generator modulo 2^64, with the constants of MMIX (Knuth).
 #[derive(Clone, Copy)]
@@ -10,13 +15,10 @@ pub(crate) struct Draws {
 impl Draws {
     /// The next number of 32 bits, the upper half of the new state.
     pub(crate) fn draw(&mut self) -> u32
-        ensures state { self.new.state ≡ next self.old.state }
-        ensures drawn { result ≡ next self.old.state / 2 ^ 32 }
+        ensures state { self.new.state ≡ (MULTIPLIER * self.old.state + INCREMENT) % 2 ^ 64 }
+        ensures drawn { result ≡ (MULTIPLIER * self.old.state + INCREMENT) % 2 ^ 64 / 2 ^ 32 }
     {
-        self.state = self
-            .state
-            .wrapping_mul(6364136223846793005)
-            .wrapping_add(1442695040888963407);
+        self.state = self.state.wrapping_mul(MULTIPLIER).wrapping_add(INCREMENT);
         (self.state >> 32) as u32
     }
 }

@@ -1,9 +1,11 @@
 //! What every layer of the view server speaks of: want of memory, growing lists whose room is
-//! known, points and boxes in the file's integer units, colours, and the words of a line.
+//! known, points and boxes in the file's integer units, colours, the words of a line, and what is wrong
+//! with a file that is no survey.
 #![tactic(auto)]
 
 mod colour;
 mod cursor;
+mod fault;
 mod kinds;
 mod listing;
 mod memory;
@@ -12,6 +14,7 @@ mod text;
 
 pub use colour::{Colouring, Rgb};
 pub use cursor::{Cursor, Form, WordKind, WordsOf};
+pub use fault::{HeaderFault, SurveyFault};
 pub use kinds::{DigitsWord, NumberWord};
 pub use listing::{Bytes, Listing, Words};
 pub use memory::OutOfMemory;

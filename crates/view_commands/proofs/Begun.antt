@@ -12,7 +12,7 @@ use Rattle.version_store.specs.declared.history.Entry.{Entry}
 use Rattle.version_store.specs.Histories.{numbered}
 use Rattle.version_store.specs.Sharing.{maker}
 use Rattle.view_ends.specs.Desk.{Said}
-use Rattle.view_commands.specs.Serve.{input, output}
+use Rattle.view_commands.specs.Run.{input, output}
 use Rattle.view_commands.specs.Steps.{CanFinish, CanServe, EachFrom, IsOpened, IsServed, Seated}
 use Rattle.view_commands.proofs.Lists.{each-zip}
 

@@ -12,7 +12,7 @@ use Rattle.view_ends.specs.Desk.{Said, IsKnown}
 use Rattle.view_ends.specs.Ends.{NoneForgotten}
 use Rattle.view_ends.specs.Pieces.{SourceSaid, SinkSaid}
 use Rattle.view_ends.specs.declared.fault.EndFault.{EndFault}
-use Rattle.view_commands.specs.Serve.{input, output, HasPair}
+use Rattle.view_commands.specs.Run.{input, output, HasPair}
 use Rattle.view_commands.specs.Steps.{CanFinish, EachFrom, Finishes, FinishesAll, IsUnread, Joins, JoinsAll, Seated, ShutsUnread}
 use Rattle.view_commands.proofs.Lists.{each-map}
 use Rattle.view_commands.proofs.Openings.{unread-one, unread-then}

@@ -3,7 +3,7 @@ use Rattle.std.proofs.Common.{◌≡◌, ℕ, true, false, Bool, cond, Option, S
 use Rattle.std.specs.Prelude.{Result}
 use Rattle.view_base.specs.Fitting.{word_at}
 use Rattle.view_ends.specs.Desk.{Said, Untouched}
-use Rattle.view_meaning.specs.Picture.{View, can_colour}
+use Rattle.view_meaning.specs.Picture.{View, can_colour, picture}
 use Rattle.view_meaning.specs.Survey.{format_of}
 use Rattle.int_camera.specs.declared.numbers.CameraLimit.{CameraLimit}
 use Rattle.view_text.specs.declared.fault.TextFault.{TextFault}
@@ -11,8 +11,9 @@ use Rattle.view_text.specs.declared.fault.TextFault.TheVariants as fault
 use Rattle.view_words.specs.declared.row.Row.TheVariants.{Draw}
 use Rattle.view_words.specs.CommandLine.{badword, IsLine, draw_of}
 use Rattle.view_words.proofs.ViewPart.{draw_of-each}
+use Rattle.view_meaning.specs.Classes.{classes}
 use Rattle.view_commands.specs.Calls.{AnswersDraw}
-use Rattle.view_commands.specs.Texts.{DrawsView, MakesText, colour_refusal, drawn, view_in}
+use Rattle.view_commands.specs.Texts.{DrawsView, MakesText, colour_refusal}
 use Rattle.view_commands.specs.declared.status.Status as status
 use Rattle.view_commands.specs.declared.status.Status.TheVariants.{Words, Limit, NoColour}
 
@@ -29,7 +30,7 @@ no_misfit o at none is = absurd (cc (none, is))
 
 -- the view that was asked for was drawn
 pub answers-view : (tells : Bool) (old new : Said) (ws : List (List ℕ)) (view : View) (ended : status.Status) → draw_of ws ≡ Ok view
-    → MakesText tells old new (word_at ws 1) (word_at ws 2) (colour_refusal view) (λ (b : List ℕ). drawn b view) ended → AnswersDraw tells old new ws ended
+    → MakesText tells old new (word_at ws 1) (word_at ws 2) (colour_refusal view) (λ (b : List ℕ). picture b (classes b []) view) ended → AnswersDraw tells old new ws ended
 answers-view tells old new ws view ended asked made =
     let line = (draw_of-each ws).1 (Ok view) asked refl in
     record {

@@ -9,7 +9,7 @@ use Rattle.view_ends.specs.declared.fault.EndFault.TheVariants as fault
 use Rattle.view_ends.specs.Calls.{Shuts, Keeps}
 use Rattle.view_ends.specs.Desk.{Said}
 use Rattle.view_ends.specs.Ends.{Rose}
-use Rattle.view_commands.specs.Serve.{KeptSo, RoseWhere}
+use Rattle.view_commands.specs.Run.{KeptSo, RoseWhere}
 use Rattle.view_commands.proofs.Counts.{rose_earlier, rose_from_none}
 
 -- what came of a keeping, seen from an earlier state

@@ -10,7 +10,7 @@ use Rattle.view_ends.specs.declared.fault.EndFault.{EndFault}
 use Rattle.view_words.specs.CommandLine.{IsLine}
 use Rattle.view_words.specs.declared.row.Row.TheVariants.{Serve}
 use Rattle.view_words.proofs.RowNames.{ins_differ, outs_differ}
-use Rattle.view_commands.specs.Serve.{input, output, HasPair, KeptSo, RoseWhere}
+use Rattle.view_commands.specs.Run.{input, output, HasPair, KeptSo, RoseWhere}
 use Rattle.view_commands.specs.Steps.{Finishes, FinishesAll, Seated}
 use Rattle.view_commands.proofs.Faults.{kept-so, kept-earlier, kept-later, read-so, wrote-so}
 use Rattle.view_commands.proofs.Lists.{below}

@@ -2,7 +2,7 @@
 use Rattle.std.proofs.Common.{◌≡◌, ℕ, List, [], ◌∷◌, ◌++◌, sym, ap, ◌∙◌, append_assoc, append-nil}
 use Rattle.edit_ops.specs.EditLine.{canonical}
 use Rattle.view_meaning.specs.Classes as meaning
-use Rattle.view_commands.specs.Serve.{journal_text}
+use Rattle.view_commands.specs.Run.{journal_text}
 
 journal_text-one : (edit : meaning.Edit) → journal_text (edit ∷ []) ≡ canonical edit ++ 10 ∷ []
 unfolding journal_text

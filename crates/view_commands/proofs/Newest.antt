@@ -3,8 +3,7 @@ use Rattle.std.proofs.Common.{◌≡◌, ℕ, ◌-◌, List, [], ◌∷◌, ◌+
 use Rattle.std.specs.Prelude.{codes, Result, OnOk}
 use Rattle.std.proofs.lemmas.Bool.{eq-eqb}
 use Rattle.std.proofs.lemmas.List.{append-nil, take_all, take_at, length_push}
-use Rattle.sessions.specs.Lines.{Item}
-use Rattle.sessions.specs.Replies.{version, head, with_length, reply}
+use Rattle.sessions.specs.Session.{Item, version, head, with_length, reply}
 use Rattle.view_lines.specs.declared.command.Command.TheVariants as command
 use Rattle.view_meaning.specs.Classes as meaning
 use Rattle.view_meaning.specs.Classes.{changed, classes, passing}
@@ -14,7 +13,8 @@ use Rattle.version_store.specs.Histories.{journal, IsLegal, HasPinned}
 use Rattle.version_store.specs.Store.{Stored, newest, with_entry}
 use Rattle.version_store.proofs.HistoryLaws.{once, journal-publish, journal-pin, journal-unpin, pins-pin, unpins-pin}
 use Rattle.version_store.proofs.PinsOut.{legal-given}
-use Rattle.view_commands.specs.Steps.{Answers, edits_in}
+use Rattle.view_commands.specs.Steps.{Answers}
+use Rattle.view_commands.specs.Trial.{edits_in}
 
 -- what follows from what holds where a result is Ok holds there too
 pub on_ok-then : {T E : Type 0} (result : Result T E) (P Q : Type 0) → (P → Q) → OnOk result P → OnOk result Q

@@ -18,7 +18,7 @@ use Rattle.view_words.proofs.RowNames.{outs_differ}
 use Rattle.view_commands.specs.declared.places.TheConstants.{JOURNAL}
 use Rattle.view_commands.specs.declared.status.Status as status
 use Rattle.view_commands.specs.declared.status.Status.TheVariants.{Done, Words, Limit, NoColour, OpenFault, ReadFault, TooLong, Survey, WriteFault, SessionLimit, Memory}
-use Rattle.view_commands.specs.Serve.{input, output, HasPair, NotOpened}
+use Rattle.view_commands.specs.Run.{input, output, HasPair, NotOpened}
 use Rattle.view_commands.specs.Steps.{EachFrom, Seated, AreOpened, IsOpened, IsUnread, IsUnwritten, OnlyInputs, OpensAll, OpensRead, OpensSession, OpensWritten, RefusesNext, RefusesOpening, RefusesRead, RefusesWritten, ShutsUnread}
 use Rattle.view_commands.proofs.Counts.{all_stay, same_said}
 use Rattle.view_commands.proofs.Lists.{each-append, each-map}

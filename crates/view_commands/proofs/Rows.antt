@@ -1,21 +1,25 @@
 -- The one row whose words fit, and the row that words begin.
 use Rattle.std.proofs.Common.{◌≡◌, ℕ, List, [], ◌∷◌, Bool, Option, Some, None, sym, ◌∙◌, subst}
-use Rattle.view_words.specs.CommandLine.{IsLine, all_rows, badword, row_in}
+use Rattle.view_words.specs.CommandLine.{IsLine, all_rows, badword, row_in, view_words}
 use Rattle.view_words.specs.declared.row.Row.{Row}
 use Rattle.view_words.specs.declared.row.Row.TheVariants.{Draw, Info, Trial}
 use Rattle.view_words.proofs.Refusals.{row_in-line, badword-row, badword-unbegun}
-use Rattle.view_ends.specs.Desk.{Said}
+use Rattle.view_ends.specs.Desk.{Said, Untouched}
 use Rattle.view_commands.specs.Calls.{AnswersDraw, AnswersInfo, AnswersTrial}
-use Rattle.view_commands.specs.Run.{EndsAtOnce, Runs, RunsLine}
+use Rattle.view_commands.specs.Run.{Runs, RunsLine, IsNothing}
 use Rattle.view_commands.specs.Steps.{RunsRow}
-use Rattle.view_commands.specs.Serve.{IsNothing}
 use Rattle.view_commands.specs.Trial.{TriesLine}
-use Rattle.view_commands.specs.Texts.{DrawsView, MakesText, view_in, refuses_none}
+use Rattle.view_commands.specs.Texts.{DrawsView, MakesText}
 use Rattle.view_base.specs.Fitting.{word_at}
+use Rattle.view_text.specs.ViewWords.{fitting_view}
 use Rattle.survey_info.specs.Text.{info_text}
 use Rattle.view_commands.specs.declared.status.Status as status
 use Rattle.view_commands.specs.declared.status.Status.TheVariants.{Words}
 use Rattle.view_commands.specs.declared.told.Ended.{Ended}
+
+-- a command that ended so before it touched a file, and tells nothing
+abbrev pub EndsAtOnce : Said → Said → status.Status → Ended → Type 0
+EndsAtOnce old new is ended = (ended.status ≡ is) × Untouched old new × IsNothing ended.told
 
 no_misfit : (o : Option ℕ) (at : ℕ) → o ≡ None → o ≡ Some at → ⊥
 no_misfit o at none is = absurd (cc (none, is))
@@ -61,20 +65,20 @@ row-refused tells old new ws ended row at bad at_once = record {
 -- a `draw` that tells nothing beside its status
 pub row-draw : (tells : Bool) (old new : Said) (ws : List (List ℕ)) (is : status.Status) (ended : Ended) → ended.status ≡ is → IsNothing ended.told → AnswersDraw tells old new ws is → RunsRow Draw tells old new ws ended
 row-draw tells old new ws is ended same nothing answered = record {
-  refused = λ at bad. let refused = answered.refused at bad in record { status = same ∙ refused.0; untouched = refused.1; told = nothing };
-  line = λ line. (subst (λ (s : status.Status). DrawsView tells old new ws (view_in ws) s) (sym same) (answered.line line), nothing);
+  refused = λ at bad. let refused = answered.refused at bad in (same ∙ refused.0, refused.1, nothing);
+  line = λ line. (subst (λ (s : status.Status). DrawsView tells old new ws (fitting_view (view_words ws)) s) (sym same) (answered.line line), nothing);
 }
 
 -- an `info`
 pub row-info : (tells : Bool) (old new : Said) (ws : List (List ℕ)) (is : status.Status) (ended : Ended) → ended.status ≡ is → IsNothing ended.told → AnswersInfo tells old new ws is → RunsRow Info tells old new ws ended
 row-info tells old new ws is ended same nothing answered = record {
-  refused = λ at bad. let refused = answered.refused at bad in record { status = same ∙ refused.0; untouched = refused.1; told = nothing };
-  line = λ line. (subst (λ (s : status.Status). MakesText tells old new (word_at ws 1) (word_at ws 2) refuses_none info_text s) (sym same) (answered.line line), nothing);
+  refused = λ at bad. let refused = answered.refused at bad in (same ∙ refused.0, refused.1, nothing);
+  line = λ line. (subst (λ (s : status.Status). MakesText tells old new (word_at ws 1) (word_at ws 2) (λ (b : List ℕ). None) info_text s) (sym same) (answered.line line), nothing);
 }
 
 -- a `trial`
 pub row-trial : (tells : Bool) (old new : Said) (ws : List (List ℕ)) (is : status.Status) (ended : Ended) → ended.status ≡ is → IsNothing ended.told → AnswersTrial tells old new ws is → RunsRow Trial tells old new ws ended
 row-trial tells old new ws is ended same nothing answered = record {
-  refused = λ at bad. let refused = answered.refused at bad in record { status = same ∙ refused.0; untouched = refused.1; told = nothing };
+  refused = λ at bad. let refused = answered.refused at bad in (same ∙ refused.0, refused.1, nothing);
   line = λ line. (subst (λ (s : status.Status). TriesLine tells old new ws s) (sym same) (answered.line line), nothing);
 }

@@ -13,7 +13,7 @@ use Rattle.view_base.specs.Fitting.{word_at}
 use Rattle.view_ends.specs.Desk.{Said}
 use Rattle.view_commands.specs.declared.places.TheConstants.{JOURNAL, INPUT}
 use Rattle.view_commands.specs.declared.told.Ended.{Ended}
-use Rattle.view_commands.specs.Serve.{first_fault, journal_text, status_at}
+use Rattle.view_commands.specs.Run.{first_fault, journal_text, status_at}
 use Rattle.view_commands.specs.Steps.{FinishesAll, FinishesRun, IsServed, JoinsAll, OpensAll, RunsAll, Seated}
 use Rattle.view_commands.specs.Texts.{KeepsText, OnlyWrote}
 use Rattle.view_commands.proofs.Lists.{zip-length}

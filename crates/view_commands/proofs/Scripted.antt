@@ -1,13 +1,13 @@
 -- The lines of a trial, read and answered one after another.
 use Rattle.std.proofs.Common.{◌≡◌, ℕ, List, [], ◌∷◌, ◌++◌, length, Ok, refl, sym, ap, ◌∙◌, arith, append_assoc}
-use Rattle.std.specs.Prelude.{codes}
+use Rattle.std.specs.Prelude.{codes, pos}
+use Rattle.std.specs.List.{flat_map}
 use Rattle.std.proofs.lemmas.List.{append-nil}
 use Rattle.class_bits.specs.ClassSet.{class_list, item_range}
 use Rattle.edit_ops.specs.EditLine as edit_line
 use Rattle.edit_ops.specs.EditLine.{coordinate, edit_of}
 use Rattle.int_camera.specs.Limits.{first_outside, is_outside}
-use Rattle.sessions.specs.Lines.{Item, lines, items_of, commands}
-use Rattle.sessions.specs.Replies.{reply, replies}
+use Rattle.sessions.specs.Session.{Item, reply, replies}
 use Rattle.sessions.specs.declared.drawing.Scene.{Scene}
 use Rattle.sessions.proofs.Later.{reply-append}
 use Rattle.survey_make.proofs.Pieces.{append_4}
@@ -15,16 +15,17 @@ use Rattle.version_store.specs.Histories.{journal}
 use Rattle.version_store.specs.Store.{Stored}
 use Rattle.view_base.specs.Fitting.{misfit}
 use Rattle.view_base.specs.Text.{words, digits, number}
-use Rattle.view_lines.specs.Command.{command_of, command_of_words}
+use Rattle.view_lines.specs.Command.{command_of}
 use Rattle.view_lines.specs.declared.command.Command.TheVariants.{Edit}
 use Rattle.view_meaning.specs.Classes as meaning
+use Rattle.view_meaning.specs.Classes.{all_classes}
 use Rattle.view_text.specs.ViewWords as view_words
-use Rattle.view_text.specs.ViewWords.{kind, colouring, hides, fits_filter, filter_at, camera_kind, camera_numbers, colouring_in, view_of, filter_of}
-use Rattle.view_commands.specs.Script.{script, script_edit, script_replies}
-use Rattle.view_commands.specs.Steps.{Answers, CanAnswer, IsStage, edits_in}
+use Rattle.view_text.specs.ViewWords.{kind, colouring, hides, fits_filter, filter_at, camera_numbers, view_of, filter_of}
+use Rattle.view_commands.specs.Trial.{script, script_replies, edits_in}
+use Rattle.view_commands.specs.Steps.{Answers, CanAnswer, IsStage}
 use Rattle.view_commands.specs.declared.script.TheConstants.{FORMAT}
 
--- the lines, without their LFs
+-- the lines
 abbrev pub from_above : List ℕ
 from_above = codes "view ortho 256 256 32768 32768 0 1 0 0 0 1 0 0 0 1 256 1 0 65535 class all show"
 
@@ -37,33 +38,51 @@ in_perspective = codes "view persp 256 256 32768 32768 -65536 1 0 0 0 1 0 0 0 1 
 abbrev pub count : List ℕ
 count = codes "count 2 show"
 
--- what they are as a text
-commands-script : commands FORMAT script ≡ command_of from_above FORMAT ∷ command_of reclassify FORMAT ∷ command_of in_perspective FORMAT ∷ command_of count FORMAT ∷ []
-unfolding script commands lines items_of words
-commands-script = refl
+-- what they are as items
+script-lines : script ≡ command_of (words from_above) FORMAT ∷ command_of (words reclassify) FORMAT ∷ command_of (words in_perspective) FORMAT ∷ command_of (words count) FORMAT ∷ []
+unfolding script
+script-lines = refl
 
 -- the first and the third are views, and the last a count, so a trial may answer them, and they publish nothing
 abbrev IsShown : Item → Type 0
 IsShown item = CanAnswer item × (edits_in item ≡ [])
 
-pub shows-from_above : IsShown (command_of from_above FORMAT)
-unfolding command_of command_of_words words view_of misfit view_words.fits kind number digits colouring fits_filter class_list hides filter_at camera_kind camera_numbers colouring_in first_outside is_outside
+pub shows-from_above : IsShown (command_of (words from_above) FORMAT)
+unfolding command_of words view_of misfit view_words.fits kind number digits colouring fits_filter class_list hides filter_at camera_numbers first_outside is_outside
 shows-from_above = (tt, refl)
 
-pub shows-in_perspective : IsShown (command_of in_perspective FORMAT)
-unfolding command_of command_of_words words view_of misfit view_words.fits kind number digits colouring fits_filter class_list hides filter_at camera_kind camera_numbers colouring_in first_outside is_outside
+pub shows-in_perspective : IsShown (command_of (words in_perspective) FORMAT)
+unfolding command_of words view_of misfit view_words.fits kind number digits colouring fits_filter class_list hides filter_at camera_numbers first_outside is_outside
 shows-in_perspective = (tt, refl)
 
-pub shows-count : IsShown (command_of count FORMAT)
-unfolding command_of command_of_words words filter_of misfit digits fits_filter class_list item_range hides filter_at
+pub shows-count : IsShown (command_of (words count) FORMAT)
+unfolding command_of words filter_of misfit digits fits_filter class_list item_range hides filter_at
 shows-count = (tt, refl)
 
--- and the second is the edit
-command_of-reclassify : command_of reclassify FORMAT ≡ Ok (Edit script_edit)
-unfolding script_edit command_of command_of_words words edit_of misfit edit_line.fits coordinate number digits class_list
+-- and the second is an edit
+unfoldable script_edit : meaning.Edit
+script_edit = record {
+  area = record { min = record { x = pos 0; y = pos 0; z = pos 0 }; max = record { x = pos 65535; y = pos 65535; z = pos 1023 } };
+  from = all_classes;
+  to = 2;
+}
+
+command_of-reclassify : command_of (words reclassify) FORMAT ≡ Ok (Edit script_edit)
+unfolding script_edit command_of words edit_of misfit edit_line.fits coordinate number digits class_list
 command_of-reclassify = refl
 
-pub can_answer-reclassify : CanAnswer (command_of reclassify FORMAT)
+-- so they publish that edit alone
+edits-script : flat_map edits_in script ≡ script_edit ∷ []
+edits-script =
+    ap (λ (items : List Item). flat_map edits_in items) script-lines
+    ∙ joined (edits_in (command_of (words from_above) FORMAT)) (edits_in (command_of (words reclassify) FORMAT)) (edits_in (command_of (words in_perspective) FORMAT)) (edits_in (command_of (words count) FORMAT))
+    shows-from_above.1 (ap edits_in command_of-reclassify) shows-in_perspective.1 shows-count.1
+  where
+    joined : (first second third fourth : List meaning.Edit) → first ≡ [] → second ≡ script_edit ∷ [] → third ≡ [] → fourth ≡ []
+        → first ++ (second ++ (third ++ (fourth ++ []))) ≡ script_edit ∷ []
+    joined first second third fourth one two three four = rw (one, two, three, four) refl
+
+pub can_answer-reclassify : CanAnswer (command_of (words reclassify) FORMAT)
 can_answer-reclassify = rw command_of-reclassify tt
 
 -- the store after a line, over which the next may be answered
@@ -111,10 +130,11 @@ replies-four b edit first second third fourth s0 s1 s2 s3 s4 o0 o1 o2 o3 o4 byte
 
 -- the replies to the lines of a trial
 pub script_replies-given : (b : List ℕ) (s0 s1 s2 s3 s4 : Stored) (o0 o1 o2 o3 o4 : List ℕ) → s0.bytes ≡ b → s0.history ≡ []
-    → Answers s0 s1 (command_of from_above FORMAT) o0 o1 → Answers s1 s2 (command_of reclassify FORMAT) o1 o2
-    → Answers s2 s3 (command_of in_perspective FORMAT) o2 o3 → Answers s3 s4 (command_of count FORMAT) o3 o4
+    → Answers s0 s1 (command_of (words from_above) FORMAT) o0 o1 → Answers s1 s2 (command_of (words reclassify) FORMAT) o1 o2
+    → Answers s2 s3 (command_of (words in_perspective) FORMAT) o2 o3 → Answers s3 s4 (command_of (words count) FORMAT) o3 o4
     → o4 ≡ o0 ++ script_replies b
 unfolding script_replies
 script_replies-given b s0 s1 s2 s3 s4 o0 o1 o2 o3 o4 bytes new a1 a2 a3 a4 =
     replies-four b script_edit _ _ _ _ s0 s1 s2 s3 s4 o0 o1 o2 o3 o4 bytes new shows-from_above.1 (ap edits_in command_of-reclassify) shows-in_perspective.1 shows-count.1 a1 a2 a3 a4
-    ∙ ap (λ (items : List Item). o0 ++ replies b (script_edit ∷ []) items (0 ∷ 1 ∷ 1 ∷ 1 ∷ [])) (sym commands-script)
+    ∙ ap (λ (items : List Item). o0 ++ replies b (script_edit ∷ []) items (0 ∷ 1 ∷ 1 ∷ 1 ∷ [])) (sym script-lines)
+    ∙ ap (λ (edits : List meaning.Edit). o0 ++ replies b edits script (0 ∷ 1 ∷ 1 ∷ 1 ∷ [])) (sym edits-script)

@@ -1,5 +1,5 @@
 -- A `serve`, put together of its steps.
-use Rattle.std.proofs.Common.{◌≡◌, ◌≢◌, ℕ, ◌+◌, ◌*◌, ◌≤◌, Bool, List, length, refl, sym, ◌∙◌, subst, arith, inl, inr}
+use Rattle.std.proofs.Common.{◌≡◌, ◌≢◌, ℕ, ◌+◌, ◌*◌, ◌≤◌, Bool, List, length, None, refl, sym, ◌∙◌, subst, arith, inl, inr}
 use Rattle.view_base.specs.Fitting.{word_at}
 use Rattle.view_ends.specs.Desk.{Said}
 use Rattle.view_ends.specs.Ends.{Rose, RoseBy}
@@ -11,9 +11,9 @@ use Rattle.view_commands.specs.declared.places.TheConstants.{SURVEY, JOURNAL}
 use Rattle.view_commands.specs.declared.status.Status as status
 use Rattle.view_commands.specs.declared.status.Status.TheVariants.{Done, Words, Limit, NoColour, OpenFault, ReadFault, TooLong, Survey, WriteFault, SessionLimit, Memory}
 use Rattle.view_commands.specs.declared.told.Ended.{Ended}
-use Rattle.view_commands.specs.Serve.{input, HasPair, IsCalm, IsNothing, Empties, NotOpened, ServesLine}
+use Rattle.view_commands.specs.Run.{input, HasPair, IsCalm, IsNothing, Empties, NotOpened, ServesLine}
 use Rattle.view_commands.specs.Steps.{OnlyInputs, RefusesOpening, RunsAll, ServesIn}
-use Rattle.view_commands.specs.Texts.{IsReadWhole, NoSurvey, OnlyTook, refuses_none}
+use Rattle.view_commands.specs.Texts.{IsReadWhole, NoSurvey, OnlyTook}
 use Rattle.view_commands.proofs.Counts.{at_most}
 use Rattle.view_commands.proofs.SessionsRun.{runs-all, runs-only}
 use Rattle.view_commands.proofs.Settled.{not_opened-settles, sessions-settle}
@@ -35,7 +35,7 @@ serves-none tells old new ws n status_is ended line pairs is nothing none =
         untaken = λ k pair. at_most _ _ (no_survey-taken tells old new (word_at ws SURVEY) ended.status came (input ws k) (apart ws n k line pairs pair));
         cause = inl came;
       };
-      settled = no_survey-settles tells old new (word_at ws SURVEY) refuses_none (Calm old new ws) ended.status came;
+      settled = no_survey-settles tells old new (word_at ws SURVEY) (λ (b : List ℕ). None) (Calm old new ws) ended.status came;
     }
 
 -- what was read before further inputs were opened and shut
@@ -120,7 +120,7 @@ serves-refused tells old mid new ws b n ended line pairs laid read took nothing 
         untaken = λ k pair. subst (λ (m : ℕ). new.taken (input ws k) ≤ m) (took.others (input ws k) (apart ws n k line pairs pair)) (refuses.untaken (input ws k));
         cause = inr (b, laid, reads, refuses.opened, files, cause);
       };
-      settled = read-settles tells old new survey b refuses_none (Calm old new ws) ended.status laid reads (unrefused ended.status) (λ none calm. not_opened-settles old new ws refuses.opened ended.status cause calm.0 calm.1);
+      settled = read-settles tells old new survey b (λ (b : List ℕ). None) (Calm old new ws) ended.status laid reads (unrefused ended.status) (λ none calm. not_opened-settles old new ws refuses.opened ended.status cause calm.0 calm.1);
     }
 
 -- a survey was read, and then there was no room
@@ -150,7 +150,7 @@ serves-memory tells old new ws b n ended line pairs laid read took is nothing =
         untaken = λ k pair. at_most _ _ (took.others (input ws k) (apart ws n k line pairs pair));
         cause = inr (b, laid, read, 0, files, cause);
       };
-      settled = read-settles tells old new survey b refuses_none (Calm old new ws) ended.status laid read (unrefused ended.status) (λ none calm. inr is);
+      settled = read-settles tells old new survey b (λ (b : List ℕ). None) (Calm old new ws) ended.status laid read (unrefused ended.status) (λ none calm. inr is);
     }
 
 -- a survey was read, and then the sessions served
@@ -161,7 +161,7 @@ serves-run tells old mid new ws b n ended line pairs laid read took run =
     let runs = runs-all tells old mid new ws b ended line took run in
     record {
       outcome = inr (b, laid, reads, runs);
-      settled = read-settles tells old new (word_at ws SURVEY) b refuses_none (Calm old new ws) ended.status laid reads (unrefused ended.status) (λ none calm. sessions-settle tells old new ws b ended runs calm.0 calm.1);
+      settled = read-settles tells old new (word_at ws SURVEY) b (λ (b : List ℕ). None) (Calm old new ws) ended.status laid reads (unrefused ended.status) (λ none calm. sessions-settle tells old new ws b ended runs calm.0 calm.1);
     }
 
 -- a survey was read, and then one of both

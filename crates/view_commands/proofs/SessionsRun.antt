@@ -22,7 +22,7 @@ use Rattle.view_words.specs.declared.row.Row.TheVariants.{Serve}
 use Rattle.view_words.proofs.RowNames.{in_not_survey, out_not_journal}
 use Rattle.view_commands.specs.declared.places.TheConstants.{SURVEY, JOURNAL}
 use Rattle.view_commands.specs.declared.told.Ended.{Ended}
-use Rattle.view_commands.specs.Serve.{input, output, RunsSession, RunsSessions}
+use Rattle.view_commands.specs.Run.{input, output, RunsSession, RunsSessions}
 use Rattle.view_commands.specs.Steps.{EachFrom, FinishesRun, OnlyInputs, RunsAll, Seated}
 use Rattle.view_commands.specs.Texts.{OnlyTook, OnlyWrote}
 use Rattle.view_commands.proofs.Begun.{WasServed, served-each}

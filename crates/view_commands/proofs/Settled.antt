@@ -3,11 +3,11 @@ use Rattle.std.proofs.Common.{◌≡◌, ◌≢◌, ℕ, zero, suc, ◌+◌, ◌
 use Rattle.std.specs.Prelude.{◌⊎◌, min, Option, Some, IfSome, slice_get}
 use Rattle.std.proofs.lemmas.List.{length-take}
 use Rattle.std.proofs.lemmas.Bool.Decides.{nat_tests}
+use Rattle.sessions.specs.declared.serving.TheConstants.{INPUT_LIMIT}
 use Rattle.sessions.specs.declared.end.Reason as reason
 use Rattle.sessions.specs.declared.end.Reason.TheVariants.{Finished, ReadFault, SessionLimit, WriteFault, Memory}
 use Rattle.sessions.specs.declared.end.SessionEnd.{SessionEnd}
-use Rattle.sessions.specs.Lines.{Item}
-use Rattle.sessions.specs.Session.{LIMIT, Processed}
+use Rattle.sessions.specs.Session.{Item, Processed}
 use Rattle.version_store.specs.declared.history.Entry.{Entry}
 use Rattle.view_base.specs.Fitting.{word_at}
 use Rattle.view_ends.specs.Desk.{Said}
@@ -16,7 +16,7 @@ use Rattle.view_commands.specs.declared.places.TheConstants.{JOURNAL, INPUT}
 use Rattle.view_commands.specs.declared.status.Status as status
 use Rattle.view_commands.specs.declared.status.Status.TheVariants as state
 use Rattle.view_commands.specs.declared.told.Ended as told
-use Rattle.view_commands.specs.Serve.{input, output, HasPair, IsCalm, KeptSo, RunsSession, RunsSessions, NotOpened, first_fault, first_status, status_at}
+use Rattle.view_commands.specs.Run.{input, output, HasPair, IsCalm, KeptSo, RunsSession, RunsSessions, NotOpened, first_fault, first_status, status_at}
 use Rattle.view_commands.specs.Texts.{KeepsText}
 use Rattle.view_commands.proofs.Lists.{at-within, below, map_slice_get, slice_get-map}
 
@@ -45,7 +45,7 @@ input_is : (left : Option (List ℕ)) (input i : List ℕ) → left ≡ Some i �
 input_is left input i is told = subst (λ (left : Option (List ℕ)). IfSome left (λ all. all ≡ input)) is told
 
 -- a session took no more than there was
-too_few : (taken n : ℕ) → taken ≤ n → taken ≡ LIMIT + 1 → n ≤ LIMIT → ⊥
+too_few : (taken n : ℕ) → taken ≤ n → taken ≡ INPUT_LIMIT + 1 → n ≤ INPUT_LIMIT → ⊥
 too_few taken n came limit few = absurd (omega (arith, came, limit, few))
 
 session-quiet : (tells : Bool) (old new : Said) (ws : List (List ℕ)) (b : List ℕ) (h : List Entry) (k : ℕ) (end : SessionEnd) (kept : reason.Reason) → RunsSession tells old new ws b h k end kept → IsCalm old new ws k → IsQuiet end.reason × IsQuiet kept
@@ -58,7 +58,7 @@ session-quiet tells old new ws b h k end kept runs calm = (quiet end.reason refl
     short limit =
         let same : calm.few.0 ≡ runs.served.input = input_is runs.left runs.served.input calm.few.0 script runs.served.input_is in
         let sizes : length calm.few.0 ≡ length runs.served.input = ap (λ (l : List ℕ). length l) same in
-        too_few end.taken (length runs.served.input) runs.served.processed.came (runs.served.processed.limit.0 limit) (subst (λ (n : ℕ). n ≤ LIMIT) sizes calm.few.2)
+        too_few end.taken (length runs.served.input) runs.served.processed.came (runs.served.processed.limit.0 limit) (subst (λ (n : ℕ). n ≤ INPUT_LIMIT) sizes calm.few.2)
 
     quiet : (reason : reason.Reason) → end.reason ≡ reason → IsQuiet end.reason
     quiet Finished is = inl is
@@ -132,11 +132,11 @@ finished-first at (Memory ∷ others) last done k one is = absurd (cc done)
 
 finished-whole : (format : ℕ) (input : List ℕ) (taken : ℕ) (reason : reason.Reason) (items : List Item) → reason ≡ Finished → Processed format input taken reason items → taken ≡ length input
 finished-whole format input taken Finished items is processed =
-    let all : take (min taken LIMIT) input ≡ input = processed.items_are.0 in
-    let size : min (min taken LIMIT) (length input) ≡ length input = sym (length-take (min taken LIMIT) input) ∙ ap (λ (l : List ℕ). length l) all in
+    let all : take (min taken INPUT_LIMIT) input ≡ input = processed.items_are.0 in
+    let size : min (min taken INPUT_LIMIT) (length input) ≡ length input = sym (length-take (min taken INPUT_LIMIT) input) ∙ ap (λ (l : List ℕ). length l) all in
     whole taken (length input) processed.came size
   where
-    whole : (a b : ℕ) → a ≤ b → min (min a LIMIT) b ≡ b → a ≡ b
+    whole : (a b : ℕ) → a ≤ b → min (min a INPUT_LIMIT) b ≡ b → a ≡ b
     whole a b le size = grind (arith, nat_tests)
 finished-whole format input taken ReadFault items is processed = absurd (cc is)
 finished-whole format input taken SessionLimit items is processed = absurd (cc is)

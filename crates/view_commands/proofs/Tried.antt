@@ -6,6 +6,7 @@ use Rattle.las_survey.specs.Loading.{TookAll}
 use Rattle.las_survey.specs.declared.loading.TheConstants.{LIMIT}
 use Rattle.survey_make.specs.Made.{made}
 use Rattle.survey_make.proofs.Laid.{length-made, laid-made}
+use Rattle.view_base.specs.declared.fault.SurveyFault.{SurveyFault}
 use Rattle.view_ends.specs.Desk.{Said}
 use Rattle.view_ends.specs.Ends.{Leaves, IsSpent}
 use Rattle.view_meaning.specs.Layout as layout
@@ -32,7 +33,7 @@ made-short start records left few is long =
     absurd (omega (arith, longer, few, length-made start records FORMAT (omega arith)))
 
 -- and has no fault
-pub made-faultless : (start records : ℕ) (old new : Option (List ℕ)) (before after : ℕ) (bytes : List ℕ) (fault : layout.Fault) → records ≤ 2 ^ 23 → old ≡ Some (made start records FORMAT)
+pub made-faultless : (start records : ℕ) (old new : Option (List ℕ)) (before after : ℕ) (bytes : List ℕ) (fault : SurveyFault) → records ≤ 2 ^ 23 → old ≡ Some (made start records FORMAT)
     → TookAll old before bytes new after → layout.fault bytes ≡ Some fault → ⊥
 made-faultless start records old new before after bytes fault few is took found =
     fault-laid (made start records FORMAT) fault (laid-made start records FORMAT (omega arith) (omega (arith, few))) (ap layout.fault (sym (taken-all old new before after _ bytes is took)) ∙ found)

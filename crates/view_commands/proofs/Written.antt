@@ -1,7 +1,8 @@
 -- Commands that read a survey and write a text, put together of their steps.
-use Rattle.std.proofs.Common.{◌≡◌, ℕ, ◌<◌, List, Option, Some, None, length, refl, sym, ◌∙◌, ap, subst, arith, inl, inr}
-use Rattle.std.specs.Prelude.{Bool, IfSome, ◌⊎◌}
-use Rattle.las_survey.specs.Fault.{fault_of}
+use Rattle.std.proofs.Common.{◌≡◌, ℕ, ◌<◌, ◌≤◌, List, Option, Some, None, length, refl, sym, ◌∙◌, ap, subst, inl, inr}
+use Rattle.std.specs.Prelude.{Bool, IfSome, ◌⊎◌, unwrap_or}
+use Rattle.std.proofs.lemmas.Bool.{le-leb, lt-leb}
+use Rattle.view_base.specs.declared.fault.SurveyFault.{SurveyFault}
 use Rattle.las_survey.specs.declared.loading.TheConstants.{LIMIT}
 use Rattle.sessions.specs.declared.end.Reason as reason
 use Rattle.sessions.specs.declared.end.Reason.TheVariants as why
@@ -9,13 +10,13 @@ use Rattle.view_ends.specs.Desk.{Said}
 use Rattle.view_ends.specs.Ends.{Rose, RoseBy, AllStay, OthersStay}
 use Rattle.view_meaning.specs.Layout as layout
 use Rattle.view_meaning.specs.Layout.{IsLaid}
-use Rattle.view_commands.specs.Texts.{IsReadWhole, OnlyTook, NoSurvey, HoldsPart, KeepsText, OnlyWrote, Writes, SettlesFile, Makes, MakesText}
+use Rattle.view_commands.specs.Texts.{IsReadWhole, OnlyTook, NoSurvey, HoldsPart, KeepsText, OnlyWrote, Writes, status_by, SettlesFile, MakesText}
 use Rattle.view_commands.specs.declared.places.TheConstants.{OUT}
 use Rattle.view_commands.specs.declared.status.Status as status
 use Rattle.view_commands.specs.declared.status.Status.TheVariants.{Done, Words, Limit, NoColour, OpenFault, ReadFault, TooLong, Survey, WriteFault, SessionLimit, Memory}
 
 -- a file that is laid out has no fault
-pub fault-laid : (b : List ℕ) (fault : layout.Fault) → IsLaid b → layout.fault b ≡ Some fault → ⊥
+pub fault-laid : (b : List ℕ) (fault : SurveyFault) → IsLaid b → layout.fault b ≡ Some fault → ⊥
 unfolding IsLaid
 fault-laid b fault laid is = absurd (cc (laid, is))
 
@@ -26,39 +27,22 @@ same_bytes told b read is all = subst (λ (told : Option (List ℕ)). IfSome tol
 told_long : (told : Option (List ℕ)) (b : List ℕ) → told ≡ Some b → IfSome told (λ file. LIMIT < length file) → LIMIT < length b
 told_long told b is long = subst (λ (told : Option (List ℕ)). IfSome told (λ file. LIMIT < length file)) is long
 
--- one fault is all that a file has
-same_fault : (b : List ℕ) (found other : layout.Fault) → layout.fault b ≡ Some found → layout.fault b ≡ Some other → found ≡ other
-same_fault b found other is also = cc (is, also)
+faultless : (b : List ℕ) → IsLaid b → layout.fault b ≡ None
+unfolding IsLaid
+faultless b laid = laid
 
 -- no survey: how that settles
 pub no_survey-settles : (tells : Bool) (old new : Said) (name : List ℕ) (refusal : List ℕ → Option status.Status) (calm : Type 0) (status : status.Status) → NoSurvey tells old new name status → SettlesFile tells old new name refusal calm status
-no_survey-settles tells old new name refusal calm (OpenFault at) none = λ tell b is opened unfailed. absurd (opened none.1)
-no_survey-settles tells old new name refusal calm (ReadFault at) none = λ tell b is opened unfailed. absurd (unfailed none.1)
-no_survey-settles tells old new name refusal calm TooLong none = λ tell b is opened unfailed.
-    let long = told_long (old.file name) b is none.1 in
-    record {
-      too_long = λ _. inl refl;
-      not_laid = λ few fault found. absurd (omega (arith, long, few));
-      refused = λ few laid status is. absurd (omega (arith, long, few));
-      laid = λ few laid free calm. absurd (omega (arith, long, few));
-    }
-no_survey-settles tells old new name refusal calm (Survey told) none = λ tell b is opened unfailed.
+no_survey-settles tells old new name refusal calm (OpenFault at) none = λ tell b is opened unfailed quiet. absurd (opened none.1)
+no_survey-settles tells old new name refusal calm (ReadFault at) none = λ tell b is opened unfailed quiet. absurd (unfailed none.1)
+no_survey-settles tells old new name refusal calm TooLong none = λ tell b is opened unfailed quiet.
+    inl (rw (lt-leb (length b) LIMIT (told_long (old.file name) b is none.1)) refl)
+no_survey-settles tells old new name refusal calm (Survey told) none = λ tell b is opened unfailed quiet.
     let same : b ≡ none.0.0 = same_bytes (old.file name) b none.0.0 is none.0.1.all in
-    let sizes : length b ≡ length none.0.0 = ap (λ (l : List ℕ). length l) same in
-    let short = none.0.1.few in
-    let at_fault : layout.fault b ≡ Some (fault_of told) = ap layout.fault same ∙ none.0.2 in
-    record {
-      too_long = λ long. absurd (omega (arith, long, sizes, short));
-      not_laid = λ few fault found. inl (told, refl, same_fault b (fault_of told) fault at_fault found);
-      refused = λ few laid status is. absurd (fault-laid b (fault_of told) laid at_fault);
-      laid = λ few laid free calm. absurd (fault-laid b (fault_of told) laid at_fault);
-    }
-no_survey-settles tells old new name refusal calm Memory none = λ tell b is opened unfailed. record {
-  too_long = λ long. inr refl;
-  not_laid = λ few fault found. inr refl;
-  refused = λ few laid status is. inr refl;
-  laid = λ few laid free calm. inr refl;
-}
+    let short : length b ≤ LIMIT = subst (λ (l : List ℕ). length l ≤ LIMIT) (sym same) none.0.1.few in
+    let at_fault : layout.fault b ≡ Some told = ap layout.fault same ∙ none.0.2 in
+    inl (rw (le-leb (length b) LIMIT short, at_fault) refl)
+no_survey-settles tells old new name refusal calm Memory none = λ tell b is opened unfailed quiet. inr refl
 no_survey-settles tells old new name refusal calm Done none = absurd none
 no_survey-settles tells old new name refusal calm (Words at) none = absurd none
 no_survey-settles tells old new name refusal calm (Limit limit) none = absurd none
@@ -69,16 +53,15 @@ no_survey-settles tells old new name refusal calm (SessionLimit at) none = absur
 -- a survey that was read and is laid out settles by what comes after
 pub read-settles : (tells : Bool) (old new : Said) (name b : List ℕ) (refusal : List ℕ → Option status.Status) (calm : Type 0) (ended : status.Status) → IsLaid b → IsReadWhole tells old new name b
     → ((status : status.Status) → refusal b ≡ Some status → (ended ≡ status) ⊎ (ended ≡ Memory)) → (refusal b ≡ None → calm → (ended ≡ Done) ⊎ (ended ≡ Memory)) → SettlesFile tells old new name refusal calm ended
-read-settles tells old new name b refusal calm ended laid read refused ends = λ tell c is opened unfailed.
+read-settles tells old new name b refusal calm ended laid read refused ends = λ tell c is opened unfailed quiet.
     let same : c ≡ b = same_bytes (old.file name) c b is read.all in
-    let sizes : length c ≡ length b = ap (λ (l : List ℕ). length l) same in
-    let short = read.few in
-    record {
-      too_long = λ long. absurd (omega (arith, long, sizes, short));
-      not_laid = λ few fault found. absurd (fault-laid b fault laid (ap layout.fault (sym same) ∙ found));
-      refused = λ few fits status is. refused status (ap refusal (sym same) ∙ is);
-      laid = λ few fits free quiet. ends (ap refusal (sym same) ∙ free) quiet;
-    }
+    let decided : status_by b (refusal b) ≡ unwrap_or (refusal b) Done = rw (le-leb (length b) LIMIT read.few, faultless b laid) refl in
+    let whole : status_by c (refusal c) ≡ unwrap_or (refusal b) Done = ap (λ (l : List ℕ). status_by l (refusal l)) same ∙ decided in
+    subst (λ (s : status.Status). (ended ≡ s) ⊎ (ended ≡ Memory)) (sym whole) (settled (refusal b) refused (λ none. ends none (quiet (whole ∙ ap (λ (o : Option status.Status). unwrap_or o Done) none))))
+  where
+    settled : (o : Option status.Status) → ((status : status.Status) → o ≡ Some status → (ended ≡ status) ⊎ (ended ≡ Memory)) → (o ≡ None → (ended ≡ Done) ⊎ (ended ≡ Memory)) → (ended ≡ unwrap_or o Done) ⊎ (ended ≡ Memory)
+    settled None refused ends = ends refl
+    settled (Some status) refused ends = refused status refl
 
 -- a command that refuses no survey ends with no refusal
 pub unrefused : (ended status : status.Status) → None ≡ Some status → (ended ≡ status) ⊎ (ended ≡ Memory)
@@ -176,10 +159,8 @@ refused_alone o refusal is none = absurd (cc (is, none))
 pub text-refused : (tells : Bool) (old new : Said) (survey out : List ℕ) (refusal : List ℕ → Option status.Status) (text : List ℕ → List ℕ) (b : List ℕ) (ended : status.Status) → refusal b ≡ Some ended → IsLaid b → IsReadWhole tells old new survey b → OnlyTook old new survey
     → MakesText tells old new survey out refusal text ended
 text-refused tells old new survey out refusal text b ended is laid read took =
-    let made : Makes tells old new survey out (refusal b) (text b) ended =
-    subst (λ (o : Option status.Status). Makes tells old new survey out o (text b) ended) (sym is) (refl, took) in
     record {
-      outcome = inr (b, laid, read, made);
+      outcome = inr (b, laid, read, inr (is, took));
       others = λ other apart. took.rest.files other;
       settled = read-settles tells old new survey b refusal (Rose (old.writes out) (new.writes out) → ⊥) ended laid read (λ other also. inl (the_same (refusal b) ended other is also)) (λ free calm. absurd (refused_alone (refusal b) ended is free));
     }
@@ -201,10 +182,8 @@ text-written tells old mid new survey out refusal text b bytes ended is free lai
     } in
     let writes : Writes tells old new OUT out (text b) ended =
     subst (λ (l : List ℕ). Writes tells old new OUT out l ended) is (writes-earlier tells old mid new OUT out bytes ended took.rest.files (took.rest.writes out) (took.rest.unkept out) written) in
-    let made : Makes tells old new survey out (refusal b) (text b) ended =
-    subst (λ (o : Option status.Status). Makes tells old new survey out o (text b) ended) (sym free) writes in
     record {
-      outcome = inr (b, laid, reads, made);
+      outcome = inr (b, laid, reads, inl (free, writes));
       others = λ other apart. only.files other apart ∙ took.rest.files other;
       settled = read-settles tells old new survey b refusal (Rose (old.writes out) (new.writes out) → ⊥) ended laid reads (λ other also. absurd (refused_alone (refusal b) other also free)) (λ none calm. writes-calm tells old new OUT out (text b) ended writes calm);
     }

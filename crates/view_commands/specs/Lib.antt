@@ -1,7 +1,5 @@
 pub mod Status
 pub mod Texts
-pub mod Serve
-pub mod Script
 pub mod Trial
 pub mod Run
 pub mod Calls

@@ -4,10 +4,8 @@ use Rattle.std.specs.Arc.{arc_value}
 use Rattle.std.specs.List.{AllZip}
 use mathlib.Core.List.{IsPrefix}
 use Rattle.atomic_table.specs.Seated.{TableId}
-use Rattle.sessions.specs.Lines.{Item}
+use Rattle.sessions.specs.Session.{Item, reply, Served}
 use Rattle.sessions.specs.Listening.{Read, Wrote, reason_of}
-use Rattle.sessions.specs.Replies.{reply}
-use Rattle.sessions.specs.Session.{Served}
 use Rattle.sessions.specs.Worlds.{HasGivenBack, IsScene}
 use Rattle.sessions.specs.declared.drawing.Scene.{Scene}
 use Rattle.sessions.specs.declared.end.Reason as reason
@@ -23,15 +21,14 @@ use Rattle.view_ends.specs.Ends.{AllStay, OthersStay, NoneForgotten, Rose}
 use Rattle.view_ends.specs.Pieces.{SourceSaid, SinkSaid}
 use Rattle.view_ends.specs.declared.fault.EndFault.{EndFault}
 use Rattle.view_lines.specs.declared.command.Command.TheVariants as command
-use Rattle.view_meaning.specs.Classes as meaning
 use Rattle.view_meaning.specs.Survey.{format_of}
 use Rattle.view_words.specs.CommandLine.{badword, IsLine}
 use Rattle.view_words.specs.declared.row.Row as row
 use Rattle.view_base.specs.Fitting.{word_at}
+use Rattle.view_commands.specs.Trial.{edits_in}
 use Rattle.view_commands.specs.declared.places.TheConstants.{JOURNAL, INPUT}
 use Rattle.view_commands.specs.declared.script.TheConstants.{FORMAT}
-use Rattle.view_commands.specs.Run.{EndsAtOnce, RunsLine}
-use Rattle.view_commands.specs.Serve.{input, output, HasPair, Empties, IsNothing, NotOpened, first_fault, journal_text, status_at}
+use Rattle.view_commands.specs.Run.{RunsLine, input, output, HasPair, Empties, IsNothing, NotOpened, first_fault, journal_text, status_at}
 use Rattle.view_commands.specs.Texts.{KeepsText, OnlyWrote}
 use Rattle.view_commands.specs.declared.finishing.Outcomes.{Outcomes}
 use Rattle.view_commands.specs.declared.status.Status as status
@@ -45,7 +42,7 @@ pub record IsUnwritten (tells : Bool) (got : Option (List ℕ)) (faults : ℕ) :
 
 -- words that begin with the command of a row are answered by the first that is refused, or else as a line of the row
 pub record RunsRow (row : row.Row) (tells : Bool) (old new : Said) (ws : List (List ℕ)) (ended : Ended) : Type 0 where
-  pub refused : (at : ℕ) → badword (row ∷ []) ws ≡ Some at → EndsAtOnce old new (Words at) ended
+  pub refused : (at : ℕ) → badword (row ∷ []) ws ≡ Some at → (ended.status ≡ Words at) × Untouched old new × IsNothing ended.told
   pub line : IsLine row ws → RunsLine row tells old new ws ended
 
 -- what belongs to a session, as it is at a moment: its input, its output, its pass, and how it ended
@@ -249,11 +246,6 @@ CanAnswer (Ok (command.View view)) = Unit {0}
 CanAnswer (Ok (command.Edit edit)) = Unit {0}
 CanAnswer (Ok (command.Count filter)) = Unit {0}
 CanAnswer _ = ⊥
-
--- the edits that a line publishes
-abbrev pub edits_in : Item → List meaning.Edit
-edits_in (Ok (command.Edit edit)) = edit ∷ []
-edits_in _ = []
 
 -- a line may be answered over this store, of the survey of this scene
 pub record IsStage (scene : Scene) (store : Stored) : Type 0 where

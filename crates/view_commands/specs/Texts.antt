@@ -1,7 +1,6 @@
 -- What a command makes of a survey that it reads from a desk, and writes there as a text.
-use Rattle.std.specs.Prelude.{◌≡◌, ℕ, ◌+◌, ◌-◌, ◌<◌, ◌≤◌, ◌⊎◌, Bool, IsTrue, List, [], length, take, Option, Some, None, IsSome, IfSome, Result, Ok, Err, if◌then◌else◌}
-use Rattle.las_survey.specs.Fault.{fault_of}
-use Rattle.las_survey.specs.declared.fault.SurveyFault.{SurveyFault}
+use Rattle.std.specs.Prelude.{◌≡◌, ℕ, ◌+◌, ◌-◌, ◌<◌, ◌≤◌, ◌⊎◌, Bool, IsTrue, List, [], length, take, Option, Some, None, IsSome, IfSome, nat_le, unwrap_or, Result, Ok, Err, if◌then◌else◌}
+use Rattle.std.specs.Option.{option_map_or}
 use Rattle.las_survey.specs.declared.loading.TheConstants.{LIMIT}
 use Rattle.sessions.specs.declared.end.Reason as reason
 use Rattle.sessions.specs.declared.end.Reason.TheVariants as why
@@ -13,10 +12,8 @@ use Rattle.view_meaning.specs.Layout as layout
 use Rattle.view_meaning.specs.Layout.{IsLaid}
 use Rattle.view_meaning.specs.Picture.{View, can_colour, picture}
 use Rattle.view_meaning.specs.Survey.{format_of}
-use Rattle.view_text.specs.ViewWords.{fitting_view}
 use Rattle.view_text.specs.declared.fault.TextFault as text
 use Rattle.view_text.specs.declared.fault.TextFault.TheVariants as fault
-use Rattle.view_words.specs.CommandLine.{view_words}
 use Rattle.view_commands.specs.declared.places.TheConstants.{SURVEY, OUT}
 use Rattle.view_commands.specs.declared.status.Status as status
 use Rattle.view_commands.specs.declared.status.Status.TheVariants.{Done, Limit, NoColour, OpenFault, ReadFault, TooLong, Survey, WriteFault, Memory}
@@ -49,7 +46,7 @@ abbrev pub NoSurvey : Bool → Said → Said → List ℕ → status.Status → 
 NoSurvey tells old new name (OpenFault at) = (at ≡ SURVEY) × Rose (old.unopened name) (new.unopened name) × Untouched (record old { unopened = new.unopened }) new
 NoSurvey tells old new name (ReadFault at) = (at ≡ SURVEY) × Rose (old.reads name) (new.reads name) × OnlyTook (record old { reads = new.reads }) new name
 NoSurvey tells old new name TooLong = RoseBy (LIMIT + 1) (old.taken name) (new.taken name) × IfSome (old.file name) (λ b. LIMIT < length b) × OnlyTook old new name
-NoSurvey tells old new name (Survey found) = ((b : List ℕ) × IsReadWhole tells old new name b × (layout.fault b ≡ Some (fault_of found))) × OnlyTook old new name
+NoSurvey tells old new name (Survey found) = ((b : List ℕ) × IsReadWhole tells old new name b × (layout.fault b ≡ Some found)) × OnlyTook old new name
 NoSurvey tells old new name Memory = OnlyTook old new name
 NoSurvey tells old new name _ = ⊥
 
@@ -74,37 +71,25 @@ Writes tells old new place out bytes (WriteFault at) = (at ≡ place) × KeepsTe
 Writes tells old new place out bytes Memory = (AllStay old.file new.file ⊎ HoldsPart tells old new out bytes) × (new.writes out ≡ old.writes out)
 Writes tells old new place out bytes _ = ⊥
 
--- how a command over a survey of these bytes, which it may refuse with a status, ends where that was opened and
--- read without a fault, and what else it needs has none; want of memory is always free
-pub record Settles (b : List ℕ) (refusal : Option status.Status) (calm : Type 0) (ended : status.Status) : Type 0 where
-  -- too many bytes end with `TooLong`
-  pub too_long : LIMIT < length b → (ended ≡ TooLong) ⊎ (ended ≡ Memory)
-  -- few enough bytes with a fault end with the first of it
-  pub not_laid : length b ≤ LIMIT → (fault : layout.Fault) → layout.fault b ≡ Some fault → ((found : SurveyFault) × (ended ≡ Survey found) × (fault_of found ≡ fault)) ⊎ (ended ≡ Memory)
-  -- those that are laid out and refused end with the refusal
-  pub refused : length b ≤ LIMIT → IsLaid b → (status : status.Status) → refusal ≡ Some status → (ended ≡ status) ⊎ (ended ≡ Memory)
-  -- and those that are laid out and not refused with `Done`
-  pub laid : length b ≤ LIMIT → IsLaid b → refusal ≡ None → calm → (ended ≡ Done) ⊎ (ended ≡ Memory)
+-- the status that the bytes of a survey decide, which a command may refuse with another one: too many bytes, the first
+-- fault of their layout, or that refusal
+abbrev pub status_by : List ℕ → Option status.Status → status.Status
+status_by b refusal = if nat_le (length b) LIMIT then option_map_or Survey (layout.fault b) (unwrap_or refusal Done) else TooLong
 
--- the same of the file of a name, where the desk tells its files
+-- where the desk tells its files, that of a name was opened and read without a fault, and what else the command needs to
+-- be done has none, the bytes decide how it ends; want of memory is always free
 abbrev pub SettlesFile : Bool → Said → Said → List ℕ → (List ℕ → Option status.Status) → Type 0 → status.Status → Type 0
-SettlesFile tells old new name refusal calm ended = IsTrue tells → (b : List ℕ) → old.file name ≡ Some b → (Rose (old.unopened name) (new.unopened name) → ⊥) → (Rose (old.reads name) (new.reads name) → ⊥) → Settles b (refusal b) calm ended
-
--- a command that refuses no survey
-abbrev pub refuses_none : List ℕ → Option status.Status
-refuses_none b = None
-
--- what a command made of a survey that was read: its text was written, or why not; or the survey is refused, and
--- nothing changed but how much was taken of it
-abbrev pub Makes : Bool → Said → Said → List ℕ → List ℕ → Option status.Status → List ℕ → status.Status → Type 0
-Makes tells old new survey out None text ended = Writes tells old new OUT out text ended
-Makes tells old new survey out (Some refusal) text ended = (ended ≡ refusal) × OnlyTook old new survey
+SettlesFile tells old new name refusal calm ended = IsTrue tells → (b : List ℕ) → old.file name ≡ Some b
+    → (Rose (old.unopened name) (new.unopened name) → ⊥) → (Rose (old.reads name) (new.reads name) → ⊥)
+    → (status_by b (refusal b) ≡ Done → calm) → (ended ≡ status_by b (refusal b)) ⊎ (ended ≡ Memory)
 
 -- what a command makes of the survey of one name, which it may refuse with a status, and writes into the file of
 -- another: no survey came, or it is refused, or the text of its bytes was written; and no other file changed
 pub record MakesText (tells : Bool) (old new : Said) (survey out : List ℕ) (refusal : List ℕ → Option status.Status) (text : List ℕ → List ℕ) (ended : status.Status) : Type 0 where
-  -- no survey came, by its cause; or one that is laid out was read to its end, and what was made of it
-  pub outcome : NoSurvey tells old new survey ended ⊎ ((b : List ℕ) × IsLaid b × IsReadWhole tells old new survey b × Makes tells old new survey out (refusal b) (text b) ended)
+  -- no survey came, by its cause; or one that is laid out was read to its end, and its text was written, or why not; or
+  -- it is refused, and nothing changed but how much was taken of it
+  pub outcome : NoSurvey tells old new survey ended ⊎ ((b : List ℕ) × IsLaid b × IsReadWhole tells old new survey b
+      × ((refusal b ≡ None) × Writes tells old new OUT out (text b) ended ⊎ (refusal b ≡ Some ended) × OnlyTook old new survey))
   -- no other file changed
   pub others : OthersStay old.file new.file out
   -- and the status where nothing outside failed
@@ -114,16 +99,9 @@ pub record MakesText (tells : Bool) (old new : Said) (survey out : List ℕ) (re
 abbrev pub colour_refusal : View → List ℕ → Option status.Status
 colour_refusal view b = if can_colour (format_of b) view.colouring then None else Some (NoColour (format_of b))
 
--- the picture of a survey as the file itself has its classes
-abbrev pub drawn : List ℕ → View → List ℕ
-drawn b view = picture b (classes b []) view
-
--- how a `draw` is answered whose words ask for this view, or have a camera number out of its range
+-- how a `draw` is answered whose words ask for this view, which is drawn by the classes that the file itself has, or have
+-- a camera number out of its range
 abbrev pub DrawsView : Bool → Said → Said → List (List ℕ) → Result View text.TextFault → status.Status → Type 0
-DrawsView tells old new ws (Ok view) ended = MakesText tells old new (word_at ws 1) (word_at ws 2) (colour_refusal view) (λ b. drawn b view) ended
+DrawsView tells old new ws (Ok view) ended = MakesText tells old new (word_at ws 1) (word_at ws 2) (colour_refusal view) (λ b. picture b (classes b []) view) ended
 DrawsView tells old new ws (Err (fault.Limit limit)) ended = (ended ≡ Limit limit) × Untouched old new
 DrawsView tells old new ws (Err (fault.Line _)) ended = ⊥
-
--- the view that the words of a `draw` ask for, or the first camera number that is out of its range
-abbrev pub view_in : List (List ℕ) → Result View text.TextFault
-view_in ws = fitting_view (view_words ws)

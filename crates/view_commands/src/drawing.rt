@@ -1,8 +1,9 @@
-ghost use Rattle.std.specs.Prelude.{◌≡◌, ◌≤◌, length, true, IfOk};
+ghost use Rattle.std.specs.Prelude.{◌≡◌, ◌≤◌, [], length, true, IfOk};
 ghost use Rattle.view_base.specs.Fitting.{word_at};
 ghost use Rattle.view_commands.specs.Calls.{AnswersDraw};
-ghost use Rattle.view_commands.specs.Texts.{MakesText, colour_refusal, drawn};
-ghost use Rattle.view_meaning.specs.Picture.{can_colour};
+ghost use Rattle.view_commands.specs.Texts.{MakesText, colour_refusal};
+ghost use Rattle.view_meaning.specs.Classes.{classes};
+ghost use Rattle.view_meaning.specs.Picture.{can_colour, picture};
 ghost use Rattle.view_meaning.specs.Survey.{format_of};
 ghost use Rattle.view_words.specs.CommandLine.{IsLine, texts};
 
@@ -59,7 +60,8 @@ fn draw_view<R: Threads + Sync, D: Desk, B: Beside>(
 ) -> Status
     requires line { IsLine Row.Draw (texts words.now) }
     requires long { 26 ≤ length words.now }
-    ensures { MakesText D.tells (D.says desk.old) (D.says desk.new) (word_at (texts words.now) 1) (word_at (texts words.now) 2) (colour_refusal view.now) (λ b. drawn b view.now) result }
+    ensures { MakesText D.tells (D.says desk.old) (D.says desk.new) (word_at (texts words.now) 1) (word_at (texts words.now) 2)
+        (colour_refusal view.now) (λ b. picture b (classes b []) view.now) result }
 {
     let workers = workers(Row::Draw, words);
     let (name, out) = (text_at(words, 1), text_at(words, 2));
@@ -78,7 +80,7 @@ fn draw_file<R: Threads + Sync, D: Desk, B: Beside>(
     beside: &B,
 ) -> Status
     requires workers { (1 ≤ workers) × (workers ≤ 64) }
-    ensures { MakesText D.tells (D.says desk.old) (D.says desk.new) name.now out.now (colour_refusal view.now) (λ b. drawn b view.now) result }
+    ensures { MakesText D.tells (D.says desk.old) (D.says desk.new) name.now out.now (colour_refusal view.now) (λ b. picture b (classes b []) view.now) result }
 {
     let survey = match read_survey(alloc, desk, name) {
         Ok(survey) => survey,
@@ -105,7 +107,7 @@ fn picture_of<R: Threads + Sync, B: Beside>(
 ) -> Result<Bytes, OutOfMemory>
     requires workers { (1 ≤ workers) × (workers ≤ 64) }
     requires can_colour { can_colour (format_of survey) view.now.colouring ≡ true }
-    ensures { IfOk result (λ bytes. bytes.items ≡ drawn survey view.now) }
+    ensures { IfOk result (λ bytes. bytes.items ≡ picture survey (classes survey []) view.now) }
 {
     let blocks = Arc::new(alloc, build_by_number(alloc, &survey)?)?;
     let scene = Scene {

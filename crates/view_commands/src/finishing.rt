@@ -2,7 +2,7 @@ ghost use Rattle.std.specs.Prelude.{◌≡◌, ◌+◌, ◌*◌, ◌<◌, ◌≤
 ghost use Rattle.std.specs.Vec.Iter.{into_iter_items};
 ghost use Rattle.sessions.specs.declared.end.Reason.{Reason};
 ghost use Rattle.view_words.specs.CommandLine.{texts};
-ghost use Rattle.view_commands.specs.Serve.{HasPair, input, output};
+ghost use Rattle.view_commands.specs.Run.{HasPair, input, output};
 ghost use Rattle.view_commands.specs.Steps.{CanFinish, EachFrom, Finishes, FinishesAll, IsRoomFor, Joins, JoinsAll};
 
 use crate::opening::{input_name, output_name};

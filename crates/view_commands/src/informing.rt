@@ -1,7 +1,7 @@
-ghost use Rattle.std.specs.Prelude.{◌≡◌, ◌≤◌, length, IfOk};
+ghost use Rattle.std.specs.Prelude.{◌≡◌, ◌≤◌, length, None, IfOk};
 ghost use Rattle.survey_info.specs.Text as told;
 ghost use Rattle.view_commands.specs.Calls.{AnswersInfo};
-ghost use Rattle.view_commands.specs.Texts.{MakesText, refuses_none};
+ghost use Rattle.view_commands.specs.Texts.{MakesText};
 ghost use Rattle.view_base.specs.Fitting.{word_at};
 ghost use Rattle.view_words.specs.CommandLine.{IsLine, texts};
 
@@ -32,14 +32,14 @@ pub fn info<D: Desk>(alloc: Global, words: &[String], desk: &mut D) -> Status
 fn info_line<D: Desk>(alloc: Global, words: &[String], desk: &mut D) -> Status
     requires line { IsLine Row.Info (texts words.now) }
     requires long { 3 ≤ length words.now }
-    ensures { MakesText D.tells (D.says desk.old) (D.says desk.new) (word_at (texts words.now) 1) (word_at (texts words.now) 2) refuses_none told.info_text result }
+    ensures { MakesText D.tells (D.says desk.old) (D.says desk.new) (word_at (texts words.now) 1) (word_at (texts words.now) 2) (λ b. None) told.info_text result }
 {
     info_file(alloc, text_at(words, 1), text_at(words, 2), desk)
 }
 
 /// Writes the info text of the survey of one name into the file of another.
 fn info_file<D: Desk>(alloc: Global, name: &str, out: &str, desk: &mut D) -> Status
-    ensures { MakesText D.tells (D.says desk.old) (D.says desk.new) name.now out.now refuses_none told.info_text result }
+    ensures { MakesText D.tells (D.says desk.old) (D.says desk.new) name.now out.now (λ b. None) told.info_text result }
 {
     let survey = match read_survey(alloc, desk, name) {
         Ok(survey) => survey,

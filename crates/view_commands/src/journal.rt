@@ -1,7 +1,7 @@
 ghost use Rattle.std.specs.Prelude.{◌≡◌, ◌++◌, [], ◌∷◌, IfOk, OnOk};
 ghost use Rattle.version_store.specs.Histories.{journal, edit_in};
 ghost use Rattle.view_ends.specs.Desk.{IsKnown};
-ghost use Rattle.view_commands.specs.Serve.{journal_text};
+ghost use Rattle.view_commands.specs.Run.{journal_text};
 ghost use Rattle.view_commands.specs.Steps.{IsUnwritten};
 ghost use Rattle.view_commands.specs.Texts.{KeepsText, OnlyWrote};
 
@@ -36,7 +36,7 @@ pub(crate) fn write_journal<D: Desk>(
 }
 
 /// The canonical line and LF of each edit that a history published, in order.
-#[tactic(auto, unfolding(crate::specs::Serve::journal_text, version_store::specs::Histories::journal))]
+#[tactic(auto, unfolding(crate::specs::Run::journal_text, version_store::specs::Histories::journal))]
 fn journal_text(alloc: Global, history: &[Entry]) -> Result<Bytes, OutOfMemory>
     ensures { IfOk result (λ text. text.items ≡ journal_text (journal history.now)) }
 {
@@ -48,7 +48,7 @@ fn journal_text(alloc: Global, history: &[Entry]) -> Result<Bytes, OutOfMemory>
 }
 
 /// Appends the canonical line and LF of the edit that an entry published, if it did.
-#[tactic(auto, unfolding(crate::specs::Serve::journal_text))]
+#[tactic(auto, unfolding(crate::specs::Run::journal_text))]
 fn append_entry(entry: &Entry, text: &mut Bytes) -> Result<(), OutOfMemory>
     ensures { OnOk result (text.new.items ≡ text.old.items ++ journal_text (edit_in entry.now.what)) }
 {

@@ -3,7 +3,7 @@ ghost use Rattle.std.specs.Vec.Iter.{into_iter_items};
 ghost use Rattle.view_ends.specs.Calls.{IsFreshIn};
 ghost use Rattle.view_base.specs.Fitting.{word_at};
 ghost use Rattle.view_words.specs.CommandLine.{IsLine, texts};
-ghost use Rattle.view_commands.specs.Serve.{HasPair, input, output};
+ghost use Rattle.view_commands.specs.Run.{HasPair, input, output};
 ghost use Rattle.view_commands.specs.Steps.{AreOpened, EachFrom, IsOpened, IsUnread, IsUnwritten, OpensAll, OpensRead, OpensSession, OpensWritten, RefusesNext, RefusesOpening, RefusesRead, RefusesWritten, ShutsUnread};
 
 use crate::places::{INPUT, JOURNAL, OUTPUT};

@@ -4,7 +4,7 @@ ghost use Rattle.sessions.specs.Worlds.{IsWorld};
 ghost use Rattle.view_base.specs.Fitting.{word_at};
 ghost use Rattle.view_ends.specs.Desk.{IsKnown};
 ghost use Rattle.view_words.specs.CommandLine.{IsLine, texts};
-ghost use Rattle.view_commands.specs.Serve.{ServesLine};
+ghost use Rattle.view_commands.specs.Run.{ServesLine};
 ghost use Rattle.view_commands.specs.Steps.{CanFinish, EachFrom, FinishesRun, IsRoomFor, IsUnwritten, ServesIn};
 ghost use Rattle.view_commands.specs.declared.places.TheConstants.{JOURNAL};
 

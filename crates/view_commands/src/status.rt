@@ -1,6 +1,6 @@
 ghost use Rattle.std.specs.Prelude.{◌≡◌, ◌+◌, ◌*◌, ◌^◌, ◌<◌, ◌≤◌, length, map};
 ghost use Rattle.view_commands.specs.declared.places.TheConstants.{INPUT, JOURNAL};
-ghost use Rattle.view_commands.specs.Serve as serve;
+ghost use Rattle.view_commands.specs.Run as serve;
 ghost use Rattle.view_commands.specs.Status.{code_of};
 
 use crate::places::{INPUT, JOURNAL};

@@ -1,4 +1,5 @@
 ghost use Rattle.std.specs.Prelude.{◌≡◌, ◌≤◌, true, Ok, OnOk};
+ghost use Rattle.view_base.specs.Text.{words};
 ghost use Rattle.view_lines.specs.Command.{FitsFormat, command_of};
 ghost use Rattle.view_lines.specs.declared.command.Command.TheVariants as command;
 ghost use Rattle.view_meaning.specs.Classes.{top_class};
@@ -34,8 +35,8 @@ pub(crate) fn answer_line<R: Threads + Sync, B: Beside>(
     out: &mut Bytes,
 ) -> Result<(), OutOfMemory>
     requires stage { IsStage scene.now store.old }
-    requires line { CanAnswer (command_of line.now FORMAT) }
-    ensures { OnOk result (Answers store.old store.new (command_of line.now FORMAT) out.old.items out.new.items) }
+    requires line { CanAnswer (command_of (words line.now) FORMAT) }
+    ensures { OnOk result (Answers store.old store.new (command_of (words line.now) FORMAT) out.old.items out.new.items) }
 {
     match read_command(line, FORMAT) {
         Ok(command) => answer_command(alloc, rt, scene, store, &command, beside, out),

@@ -1,5 +1,5 @@
 ghost use Rattle.std.specs.Prelude.{◌≡◌};
-ghost use Rattle.view_commands.specs.Serve.{IsNothing};
+ghost use Rattle.view_commands.specs.Run.{IsNothing};
 
 use crate::status::Status;
 use sessions::{Ends, History, Reason};

@@ -6,9 +6,8 @@ ghost use Rattle.view_base.specs.Fitting.{word_at};
 ghost use Rattle.view_meaning.specs.Survey.{format_of};
 ghost use Rattle.view_words.specs.CommandLine.{IsLine, texts};
 ghost use Rattle.view_commands.specs.Calls.{AnswersTrial};
-ghost use Rattle.view_commands.specs.Script.{script_replies};
+ghost use Rattle.view_commands.specs.Trial.{script_replies, TriesLine, WritesSummary, summary};
 ghost use Rattle.view_commands.specs.Steps.{IsStage};
-ghost use Rattle.view_commands.specs.Trial.{TriesLine, WritesSummary, summary};
 ghost use Rattle.view_commands.specs.declared.script.TheConstants.{FORMAT};
 
 use crate::places::TRIAL_OUT;

@@ -6,34 +6,34 @@ use Rattle.view_base.specs.Text.{words}
 use Rattle.view_text.specs.ViewWords.{view_of, filter_of}
 use Rattle.edit_ops.specs.EditLine.{edit_of}
 use Rattle.view_lines.specs.declared.refusal.Refusal.TheVariants.{Line}
-use Rattle.view_lines.specs.Command.{viewed, edited, counted, save_of, command_of, command_of_words}
+use Rattle.view_lines.specs.Command.{viewed, edited, counted, save_of, command_of}
 
 -- whether a word is a text, by an answer that compared it with that text
 pub bytes_eq-answered : (word literal text : List ℕ) (answer truth : Bool) → answer ≡ bytes_eq word literal → literal ≡ text → answer ≡ truth → bytes_eq word text ≡ truth
 bytes_eq-answered word literal text answer truth told is known = ap (bytes_eq word) (sym is) ∙ sym told ∙ known
 
-pub command_of-wordless : (line : List ℕ) (format : ℕ) → words line ≡ [] → command_of line format ≡ Err Line
-unfolding command_of command_of_words
+pub command_of-wordless : (line : List ℕ) (format : ℕ) → words line ≡ [] → command_of (words line) format ≡ Err Line
+unfolding command_of
 command_of-wordless line format none = rw none refl
 
-pub command_of-view : (line word : List ℕ) (others : List (List ℕ)) (format : ℕ) → words line ≡ word ∷ others → bytes_eq word (codes "view") ≡ true → command_of line format ≡ viewed format (view_of others)
-unfolding command_of command_of_words
+pub command_of-view : (line word : List ℕ) (others : List (List ℕ)) (format : ℕ) → words line ≡ word ∷ others → bytes_eq word (codes "view") ≡ true → command_of (words line) format ≡ viewed format (view_of others)
+unfolding command_of
 command_of-view line word others format is view = rw is (rw view refl)
 
-pub command_of-edit : (line word : List ℕ) (others : List (List ℕ)) (format : ℕ) → words line ≡ word ∷ others → bytes_eq word (codes "view") ≡ false → bytes_eq word (codes "edit") ≡ true → command_of line format ≡ edited (edit_of (words line) format)
-unfolding command_of command_of_words
+pub command_of-edit : (line word : List ℕ) (others : List (List ℕ)) (format : ℕ) → words line ≡ word ∷ others → bytes_eq word (codes "view") ≡ false → bytes_eq word (codes "edit") ≡ true → command_of (words line) format ≡ edited (edit_of (words line) format)
+unfolding command_of
 command_of-edit line word others format is view edit = rw is (rw (view, edit) refl)
 
-pub command_of-count : (line word : List ℕ) (others : List (List ℕ)) (format : ℕ) → words line ≡ word ∷ others → bytes_eq word (codes "view") ≡ false → bytes_eq word (codes "edit") ≡ false → bytes_eq word (codes "count") ≡ true → command_of line format ≡ counted (filter_of others)
-unfolding command_of command_of_words
+pub command_of-count : (line word : List ℕ) (others : List (List ℕ)) (format : ℕ) → words line ≡ word ∷ others → bytes_eq word (codes "view") ≡ false → bytes_eq word (codes "edit") ≡ false → bytes_eq word (codes "count") ≡ true → command_of (words line) format ≡ counted (filter_of others)
+unfolding command_of
 command_of-count line word others format is view edit count = rw is (rw (view, edit, count) refl)
 
 pub command_of-save : (line word : List ℕ) (others : List (List ℕ)) (format : ℕ) → words line ≡ word ∷ others → bytes_eq word (codes "view") ≡ false → bytes_eq word (codes "edit") ≡ false → bytes_eq word (codes "count") ≡ false → bytes_eq word (codes "save") ≡ true
-    → command_of line format ≡ save_of others
-unfolding command_of command_of_words
+    → command_of (words line) format ≡ save_of others
+unfolding command_of
 command_of-save line word others format is view edit count save = rw is (rw (view, edit, count, save) refl)
 
 pub command_of-other : (line word : List ℕ) (others : List (List ℕ)) (format : ℕ) → words line ≡ word ∷ others → bytes_eq word (codes "view") ≡ false → bytes_eq word (codes "edit") ≡ false → bytes_eq word (codes "count") ≡ false → bytes_eq word (codes "save") ≡ false
-    → command_of line format ≡ Err Line
-unfolding command_of command_of_words
+    → command_of (words line) format ≡ Err Line
+unfolding command_of
 command_of-other line word others format is view edit count save = rw is (rw (view, edit, count, save) refl)

@@ -2,7 +2,6 @@
 -- words of a filter, and `save`.
 use Rattle.std.specs.Prelude.{◌≡◌, ℕ, ◌≤◌, true, List, [], ◌∷◌, codes, Result, Ok, Err, if◌then◌else◌}
 use Rattle.std.specs.Str.{bytes_eq}
-use Rattle.view_base.specs.Text.{words}
 use Rattle.view_meaning.specs.Picture as picture
 use Rattle.view_meaning.specs.Classes as meaning
 use Rattle.view_text.specs.declared.fault.TextFault as text
@@ -40,18 +39,13 @@ save_of [] = Ok Save
 save_of (word ∷ others) = Err Line
 
 -- the command of a line by its words, for a point format, or why it is refused
-unfoldable pub command_of_words : List (List ℕ) → ℕ → Result command.Command refusal.Refusal
-command_of_words [] format = Err Line
-command_of_words (word ∷ others) format =
+unfoldable pub command_of : List (List ℕ) → ℕ → Result command.Command refusal.Refusal
+command_of [] format = Err Line
+command_of (word ∷ others) format =
     if bytes_eq word (codes "view") then viewed format (view_of others)
     else if bytes_eq word (codes "edit") then edited (edit_of (word ∷ others) format)
     else if bytes_eq word (codes "count") then counted (filter_of others)
-    else if bytes_eq word (codes "save") then save_of others
-    else Err Line
-
--- the command of a line for a point format, or why it is refused
-unfoldable pub command_of : List ℕ → ℕ → Result command.Command refusal.Refusal
-command_of line format = command_of_words (words line) format
+    else if bytes_eq word (codes "save") then save_of others else Err Line
 
 -- a point format has what a command needs: red, green and blue for a view that shows them, and room for the class of
 -- an edit

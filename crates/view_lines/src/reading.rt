@@ -71,7 +71,7 @@ fn save_command(rest: &[u8]) -> Result<Command, Refusal>
 /// above the greatest class of the format. Takes no memory.
 pub fn read_command(line: &[u8], format: u8) -> Result<Command, Refusal>
     requires { format ≤ 10 }
-    ensures command { result ≡ command_of line.now format }
+    ensures command { result ≡ command_of (words line.now) format }
     ensures fits { IfOk result (FitsFormat format) }
 {
     let Some((start, end)) = next_word(line, 0) else {

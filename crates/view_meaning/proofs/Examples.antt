@@ -5,7 +5,9 @@ use Rattle.std.specs.Int.{cast_unsigned, w32, to_le_bytes, w64}
 use Rattle.std.specs.List.{flat_map}
 use Rattle.view_base.specs.declared.place.Point.{Point}
 use Rattle.view_meaning.specs.Survey.{u8_at, u16_at, u32_at, u64_at, i32_at, evlrs_at, evlr_count, record_count, record_at, points_end, point_of, class_byte, withheld_of}
-use Rattle.view_meaning.specs.Layout.{few_bytes, no_signature, other_version, small_header, missing_points, block_size, header_faults, vlr_at, vlr_fits, vlr_fault, evlr_at, evlr_fits, evlr_fault, fault}
+use Rattle.view_base.specs.declared.fault.SurveyFault.TheVariants.{Header, Points}
+use Rattle.view_base.specs.declared.fault.HeaderFault.TheVariants.{TooShort, Signature, Version, HeaderSize}
+use Rattle.view_meaning.specs.Layout.{block_size, header_faults, vlr_at, vlr_fits, vlr_fault, evlr_at, evlr_fits, evlr_fault, fault}
 use Rattle.view_meaning.specs.Classes.{has, class_at, classes, passes}
 use Rattle.view_meaning.specs.Camera.{Lens, spot, orthographic, perspective}
 use Rattle.view_meaning.specs.Picture.{by_class, is_candidate, candidates, depth_of, nearest, colour, pixel}
@@ -154,15 +156,15 @@ pub record OldFaults : Type 0 where
   pub of_1_2 : fault (old 2 227 2 two_records) ≡ None
   pub of_1_3 : fault (old 3 235 1 ((at (pos 0) (pos 0) (pos 5), 2) ∷ [])) ≡ None
   pub empty : fault (old 2 227 0 []) ≡ None
-  pub cut_1_2 : fault (take 226 (old 2 227 0 [])) ≡ Some (few_bytes 226)
-  pub cut_1_3 : fault (take 234 (old 3 235 0 [])) ≡ Some (few_bytes 234)
-  pub cut_1_4 : fault (take 374 (plain 0 [])) ≡ Some (few_bytes 374)
-  pub unsigned : fault (zeros 374) ≡ Some no_signature
-  pub unsigned_and_cut : fault (zeros 226) ≡ Some (few_bytes 226)
-  pub small : fault (old 2 226 0 two_records) ≡ Some (small_header 226)
-  pub early : fault (old 1 227 2 two_records) ≡ Some (other_version 1 1)
-  pub late : fault (old 5 227 2 two_records) ≡ Some (other_version 1 5)
-  pub points : fault (old 3 235 3 two_records) ≡ Some (missing_points 295 275)
+  pub cut_1_2 : fault (take 226 (old 2 227 0 [])) ≡ Some (Header (TooShort 226))
+  pub cut_1_3 : fault (take 234 (old 3 235 0 [])) ≡ Some (Header (TooShort 234))
+  pub cut_1_4 : fault (take 374 (plain 0 [])) ≡ Some (Header (TooShort 374))
+  pub unsigned : fault (zeros 374) ≡ Some (Header Signature)
+  pub unsigned_and_cut : fault (zeros 226) ≡ Some (Header (TooShort 226))
+  pub small : fault (old 2 226 0 two_records) ≡ Some (Header (HeaderSize 226))
+  pub early : fault (old 1 227 2 two_records) ≡ Some (Header (Version 1 1))
+  pub late : fault (old 5 227 2 two_records) ≡ Some (Header (Version 1 5))
+  pub points : fault (old 3 235 3 two_records) ≡ Some (Points 295 275)
 
 old_faults : OldFaults
 unfolding u8_at u16_at u32_at u64_at evlrs_at evlr_count record_count points_end block_size header_faults vlr_at vlr_fits vlr_fault evlr_at evlr_fits evlr_fault fault

@@ -41,13 +41,10 @@ pub record Edit : Type 0 where
 abbrev pub in_box : Box3 → Point → Bool
 in_box area p = le_z area.min.x p.x && le_z p.x area.max.x && le_z area.min.y p.y && le_z p.y area.max.y && le_z area.min.z p.z && le_z p.z area.max.z
 
--- whether an edit changes the class of a point that has this class
-abbrev pub applies : Edit → Point → ℕ → Bool
-applies e p class = in_box e.area p && has e.from class
-
--- the class after one more edit
+-- the class after one more edit, which changes it where the point lies in the edit's box and the class is one of its
+-- classes
 abbrev pub class_after : Point → ℕ → Edit → ℕ
-class_after p class e = if applies e p class then e.to else class
+class_after p class e = if in_box e.area p && has e.from class then e.to else class
 
 -- the class of record i after a list of edits
 unfoldable pub class_at : List ℕ → List Edit → ℕ → ℕ

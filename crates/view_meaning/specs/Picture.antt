@@ -70,21 +70,16 @@ grey n = n ∷ n ∷ n ∷ []
 
 -- whether records of a format have what a colouring shows: red, green and blue, where it shows them
 abbrev pub can_colour : ℕ → colouring.Colouring → Bool
-can_colour format Class = true
 can_colour format Rgb16 = is_some (rgb_place format)
 can_colour format Rgb8 = is_some (rgb_place format)
-can_colour format Intensity = true
+can_colour format _ = true
 
 -- the three bytes that show record i, by each colouring
-abbrev pub colour_by : colouring.Colouring → List ℕ → List ℕ → ℕ → List ℕ
-colour_by Class b cs i = class_colour (slice_index cs i)
-colour_by Rgb16 b cs i = rgb_colour (λ n. n / 256) b i (rgb_place (format_of b))
-colour_by Rgb8 b cs i = rgb_colour (λ n. min n 255) b i (rgb_place (format_of b))
-colour_by Intensity b cs i = grey (intensity_of b i / 256)
-
--- the three bytes that show record i under a colouring
 unfoldable pub colour : List ℕ → List ℕ → colouring.Colouring → ℕ → List ℕ
-colour b cs colouring i = colour_by colouring b cs i
+colour b cs Class i = class_colour (slice_index cs i)
+colour b cs Rgb16 i = rgb_colour (λ n. n / 256) b i (rgb_place (format_of b))
+colour b cs Rgb8 i = rgb_colour (λ n. min n 255) b i (rgb_place (format_of b))
+colour b cs Intensity i = grey (intensity_of b i / 256)
 
 -- the three bytes of a pixel that shows this record, or none: then they are black
 abbrev pub shown : List ℕ → List ℕ → colouring.Colouring → Option ℕ → List ℕ

@@ -86,8 +86,7 @@ abbrev pub rgb_place : ℕ → Option ℕ
 rgb_place format =
     if format == 2 then Some 20
     else if format == 3 || format == 5 then Some 28
-    else if format == 7 || format == 8 || format == 10 then Some 30
-    else None
+    else if format == 7 || format == 8 || format == 10 then Some 30 else None
 
 -- red, green and blue from a place
 unfoldable pub rgb_at : List ℕ → ℕ → Rgb

@@ -41,8 +41,7 @@ unfoldable pub fits : ℕ → List ℕ → Bool
 fits place word =
     if place == 0 then is_some (kind word)
     else if nat_le place 18 then is_some (number word)
-    else if place == 19 then is_some (colouring word)
-    else fits_filter (place - 20) word
+    else if place == 19 then is_some (colouring word) else fits_filter (place - 20) word
 
 -- a filter has two words
 abbrev pub is_pair : ℕ → Bool
@@ -59,17 +58,9 @@ filter_at ws place = record {
   hide_withheld = unwrap_or (hides (word_at ws (place + 1))) false;
 }
 
--- the kind of camera in the words of a view, where they fit
-unfoldable pub camera_kind : List (List ℕ) → Kind
-camera_kind ws = unwrap_or (kind (word_at ws 0)) Ortho
-
 -- the eighteen numbers of a camera in the words of a view
 unfoldable pub camera_numbers : List (List ℕ) → List ℤ
 camera_numbers ws = map (λ place. unwrap_or (number (word_at ws place)) (pos 0)) (range_with_len 1 18)
-
--- the colouring in the words of a view, where they fit
-unfoldable pub colouring_in : List (List ℕ) → Colouring
-colouring_in ws = unwrap_or (colouring (word_at ws 19)) Class
 
 -- the view of a camera's kind and numbers, a colouring and a filter, or the first number that is out of its range
 abbrev pub view_through : Kind → List ℤ → Colouring → Filter → Result View TextFault
@@ -79,7 +70,9 @@ view_through kind n colouring filter =
 
 -- the view of words that fit, or the first camera number that is out of its range
 abbrev pub fitting_view : List (List ℕ) → Result View TextFault
-fitting_view ws = view_through (camera_kind ws) (camera_numbers ws) (colouring_in ws) (filter_at ws 20)
+fitting_view ws =
+    view_through (unwrap_or (kind (word_at ws 0)) Ortho) (camera_numbers ws)
+    (unwrap_or (colouring (word_at ws 19)) Class) (filter_at ws 20)
 
 -- the view of words, or why it is none: first a word that doesn't fit, then a camera number out of its range
 unfoldable pub view_of : List (List ℕ) → Result View TextFault

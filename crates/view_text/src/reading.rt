@@ -1,9 +1,9 @@
 ghost use Rattle.std.specs.Prelude.{◌≡◌, ◌+◌, ◌<◌, List, ℕ, false, is_some, Some, None, OnOk, IfOk, IfErr};
 ghost use Rattle.view_base.specs.Text.{words};
-ghost use Rattle.view_base.specs.Fitting.{misfit};
+ghost use Rattle.view_base.specs.Fitting.{word_at, misfit};
 ghost use Rattle.view_base.specs.Cursor.{all_words};
 ghost use Rattle.class_bits.specs.ClassSet.{class_list};
-ghost use Rattle.view_text.specs.ViewWords.{fits, fits_filter, hides, is_pair, is_whole, camera_kind, camera_numbers, colouring_in, filter_at, filter_of, view_of, view_through};
+ghost use Rattle.view_text.specs.ViewWords.{fits, fits_filter, hides, is_pair, is_whole, kind, colouring, camera_numbers, filter_at, filter_of, view_of, view_through};
 
 use crate::fault::TextFault;
 use crate::kinds::{CameraWord, ColouringWord, WithheldWord};
@@ -78,9 +78,9 @@ fn read_filter_words<F: Form>(rest: &mut Cursor<F>) -> Result<Filter, u32>
 /// What the words of a view say, or the first place where they don't fit.
 fn read_said(source: WordsOf) -> Result<Said, u32>
     ensures fit { OnOk result (misfit fits is_whole (all_words source.entry) ≡ None) }
-    ensures kind { IfOk result (λ s. s.numbers.kind ≡ camera_kind (all_words source.entry)) }
+    ensures kind { IfOk result (λ s. kind (word_at (all_words source.entry) 0) ≡ Some s.numbers.kind) }
     ensures numbers { IfOk result (λ s. s.numbers.n ≡ camera_numbers (all_words source.entry)) }
-    ensures colouring { IfOk result (λ s. s.colouring ≡ colouring_in (all_words source.entry)) }
+    ensures colouring { IfOk result (λ s. colouring (word_at (all_words source.entry) 19) ≡ Some s.colouring) }
     ensures filter { IfOk result (λ s. s.filter ≡ filter_at (all_words source.entry) 20) }
     ensures misfit { IfErr result
         (λ at. misfit fits is_whole (all_words source.entry) ≡ Some at) }

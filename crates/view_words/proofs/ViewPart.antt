@@ -4,14 +4,16 @@ use Rattle.std.proofs.lemmas.Bool.{cases_lt, ne_eqb}
 use Rattle.std.proofs.lemmas.Bool.Decides.{nat_tests}
 use Rattle.std.proofs.lemmas.List.{get_or-drop, length-map}
 use Rattle.std.specs.Option.{option_map_or, option_map}
-use Rattle.std.specs.Prelude.{not, ◌==◌, ◌&&◌, nat_le, Result, String, string_bytes}
+use Rattle.std.specs.Prelude.{not, ◌==◌, ◌&&◌, nat_le, unwrap_or, Result, String, string_bytes}
+use Rattle.view_base.specs.declared.colour.Colouring.TheVariants.{Class}
 use Rattle.view_base.specs.Fitting.{word_at, fitting, misfit}
 use Rattle.view_meaning.specs.Picture.{View}
 use Rattle.view_text.specs.declared.fault.TextFault.{TextFault}
 use Rattle.view_text.specs.declared.fault.TextFault.TheVariants.{Line, Limit}
 use Rattle.view_text.specs.ViewWords as view
-use Rattle.view_text.specs.ViewWords.{fits, fits_filter, camera_kind, camera_numbers, colouring_in, filter_at, fitting_view, view_of}
+use Rattle.view_text.specs.ViewWords.{fits, fits_filter, kind, colouring, camera_numbers, filter_at, fitting_view, view_of}
 use Rattle.int_camera.specs.declared.numbers.CameraLimit.{CameraLimit}
+use Rattle.int_camera.specs.declared.numbers.Kind.TheVariants.{Ortho}
 use Rattle.int_camera.specs.Limits.{first_outside, lens_of, projection_of}
 use Rattle.view_words.specs.declared.row.Row.{Row}
 use Rattle.view_words.specs.declared.row.Row.TheVariants.{Draw, Info, Trial, Serve}
@@ -132,7 +134,7 @@ drawn_view-refused ws at is = rw is refl
 
 -- words that fit are refused for none of them
 fitting_view-refused : (ws : List (List ℕ)) → refused_at (fitting_view ws) ≡ None
-fitting_view-refused ws = none (first_outside (projection_of (camera_kind ws)) (camera_numbers ws)) (record { camera = lens_of (projection_of (camera_kind ws)) (camera_numbers ws); colouring = colouring_in ws; filter = filter_at ws 20 })
+fitting_view-refused ws = none (first_outside (projection_of (unwrap_or (kind (word_at ws 0)) Ortho)) (camera_numbers ws)) (record { camera = lens_of (projection_of (unwrap_or (kind (word_at ws 0)) Ortho)) (camera_numbers ws); colouring = unwrap_or (colouring (word_at ws 19)) Class; filter = filter_at ws 20 })
   where
     none : (o : Option CameraLimit) (view : View) → refused_at (option_map_or (λ limit. Err (Limit limit)) o (Ok view)) ≡ None
     none None view = refl

@@ -42,8 +42,7 @@ unfoldable pub kind_at : Row → ℕ → WordKind
 kind_at Draw k =
     if k == 0 then Command else if k == 1 then ReadName else if k == 2 then WrittenName else if k == 3 then Workers
     else if nat_le k 25 then ViewWord (k - 4) else NoWord
-kind_at Info k =
-    if k == 0 then Command else if k == 1 then ReadName else if k == 2 then WrittenName else NoWord
+kind_at Info k = if k == 0 then Command else if k == 1 then ReadName else if k == 2 then WrittenName else NoWord
 kind_at Trial k =
     if k == 0 then Command else if k == 1 then Start else if k == 2 then Records else if k == 3 then Workers
     else if k == 4 then WrittenName else NoWord
@@ -77,20 +76,16 @@ barred row ws k j = bytes_eq (word_at ws j) (word_at ws k) && bars (kind_at row 
 unfoldable pub is_taken : Row → List (List ℕ) → ℕ → Bool
 is_taken row ws k = list_any (barred row ws k) (range_with_len 0 k)
 
--- whether the name at a place is refused: it is empty, or an earlier name bars it
-abbrev pub is_refused_name : Row → List (List ℕ) → ℕ → Bool
-is_refused_name row ws k = bytes_eq (word_at ws k) [] || is_taken row ws k
-
--- whether the word at a place is refused where this is what its row has there
+-- whether the word at a place is refused where this is what its row has there: a name is where it is empty, or an
+-- earlier name bars it
 abbrev pub is_refused_as : WordKind → Row → List (List ℕ) → ℕ → Bool
 is_refused_as Command row ws k = false
-is_refused_as ReadName row ws k = is_refused_name row ws k
-is_refused_as WrittenName row ws k = is_refused_name row ws k
 is_refused_as Workers row ws k = is_none (number_within 1 64 (word_at ws k))
 is_refused_as Start row ws k = is_none (number_within 0 (2 ^ 64 - 1) (word_at ws k))
 is_refused_as Records row ws k = is_none (number_within 0 (2 ^ 23) (word_at ws k))
 is_refused_as (ViewWord place) row ws k = not (fits place (word_at ws k))
 is_refused_as NoWord row ws k = true
+is_refused_as _ row ws k = bytes_eq (word_at ws k) [] || is_taken row ws k
 
 -- whether the word at a place is refused in a line that begins with this row's command
 unfoldable pub is_refused : Row → List (List ℕ) → ℕ → Bool

@@ -1,5 +1,7 @@
-ghost use Rattle.std.specs.Prelude.{◌≡◌, ◌≢◌, ℕ, ◌<◌, ◌≤◌, length, false, Some, IfSome, IfNone};
-ghost use Rattle.view_words.specs.CommandLine.{texts, number_within, bars, barred, is_taken, is_refused_name, is_refused, is_whole, badword_in, drawn_view};
+ghost use Rattle.std.specs.Prelude.{◌≡◌, ◌≢◌, ℕ, ◌<◌, ◌≤◌, ◌||◌, [], length, false, Some, IfSome, IfNone};
+ghost use Rattle.std.specs.Str.{bytes_eq};
+ghost use Rattle.view_base.specs.Fitting.{word_at};
+ghost use Rattle.view_words.specs.CommandLine.{texts, number_within, bars, barred, is_taken, is_refused, is_whole, badword_in, drawn_view};
 ghost use Rattle.view_words.specs.Parts.{IsBeforeView, refused_at};
 
 use crate::fields::text_at;
@@ -73,7 +75,7 @@ fn is_taken(row: Row, words: &[String], at: usize) -> bool
 /// Whether the name at a place is refused.
 fn is_refused_name(row: Row, words: &[String], at: usize) -> bool
     requires { at < length words.now }
-    ensures { result ≡ is_refused_name row (texts words.now) at }
+    ensures { result ≡ (bytes_eq (word_at (texts words.now) at) [] || is_taken row (texts words.now) at) }
 {
     text_at(words, at).is_empty() || is_taken(row, words, at)
 }

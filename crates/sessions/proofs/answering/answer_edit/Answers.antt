@@ -3,7 +3,7 @@ use Rattle.std.specs.Arc.{arc_value}
 use Rattle.std.specs.Prelude.{codes}
 use Rattle.version_store.specs.Histories.{journal}
 use Rattle.version_store.specs.Sharing.{changed_by_last}
-use Rattle.sessions.specs.Replies.{head}
+use Rattle.sessions.specs.Session.{head}
 use Rattle.sessions.specs.Talk.{talk_of}
 use Rattle.sessions.proofs.Calls.{made_none}
 use Rattle.sessions.proofs.Answered.{answered_none, answered_edit}

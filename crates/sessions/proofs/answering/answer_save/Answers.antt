@@ -4,7 +4,7 @@ use Rattle.std.specs.Prelude.{codes}
 use Rattle.view_meaning.specs.Classes.{saved}
 use Rattle.version_store.specs.Store.{Pinned}
 use Rattle.version_store.proofs.SharedCalls.{HasPinned-shown}
-use Rattle.sessions.specs.Replies.{with_length}
+use Rattle.sessions.specs.Session.{with_length}
 use Rattle.sessions.specs.Talk.{talk_of}
 use Rattle.sessions.proofs.Calls.{made_none, shown_by}
 use Rattle.sessions.proofs.Answered.{answered_none, answered_save}

@@ -1,5 +1,5 @@
 use Rattle.std.proofs.Common.{◌≡◌, ◌++◌, ◌∷◌, [], ◌∙◌, List, ℕ, ap, append_assoc, decimal}
-use Rattle.sessions.specs.Replies.{head}
+use Rattle.sessions.specs.Session.{head}
 use Rattle.sessions.proofs.heads.append_head.Goals as goal
 
 six : (old a b d e f g : List ℕ) → ((((((old ++ a) ++ b) ++ d) ++ e) ++ f) ++ g) ≡ old ++ (a ++ b ++ d ++ e ++ f ++ g)

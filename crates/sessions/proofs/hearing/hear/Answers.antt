@@ -2,7 +2,7 @@ use Rattle.std.proofs.Common.{◌≡◌, ◌++◌, ◌∷◌, ◌∙◌, [], ◌
 use Rattle.std.specs.List.{position}
 use Rattle.std.specs.Arc.{arc_value}
 use Rattle.std.proofs.lemmas.List.{append_assoc, append-nil, take_all, length-drop}
-use Rattle.sessions.specs.Lines.{is_lf, rest}
+use Rattle.sessions.specs.Session.{is_lf, rest}
 use Rattle.sessions.specs.Talk.{Start, talk_of}
 use Rattle.sessions.specs.Hearing.{HasHeard}
 use Rattle.sessions.proofs.Lines.{unbroken, unbroken_front}

@@ -1,6 +1,6 @@
 use Rattle.std.proofs.Common.{◌<◌, length, ap, rules, arith, is_ok, List, ℕ}
 use Rattle.std.specs.Arc.{arc_value}
-use Rattle.sessions.specs.Lines.{rest}
+use Rattle.sessions.specs.Session.{rest}
 use Rattle.sessions.specs.Talk.{Start, talk_of}
 use Rattle.sessions.specs.Hearing.{HasHeard}
 use Rattle.sessions.proofs.Heard.{some_long, some_kept, none_kept, heard_end, end_gave_up, heard_all}

@@ -2,7 +2,7 @@ use Rattle.std.proofs.Common.{◌≡◌, ◌∙◌, ◌++◌, List, ℕ, length,
 use Rattle.std.specs.Prelude.{codes}
 use Rattle.std.proofs.lemmas.List.{nil_from_length}
 use Rattle.view_meaning.specs.Classes.{saved}
-use Rattle.sessions.specs.Replies.{head, with_length}
+use Rattle.sessions.specs.Session.{head, with_length}
 use Rattle.sessions.proofs.Parts.{file_parts, part_first, part_second}
 use Rattle.sessions.proofs.replies.give_file.Goals as goal
 

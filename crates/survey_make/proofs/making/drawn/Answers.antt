@@ -1,5 +1,6 @@
 use Rattle.std.proofs.Common.{◌≡◌, ℕ, ◌/◌, ◌%◌, ◌^◌, ◌∙◌, ap, sym}
-use Rattle.survey_make.specs.Made.{next, state, draw}
+use Rattle.survey_make.specs.Made.{state, draw}
+use Rattle.survey_make.proofs.Drawing.{next}
 use Rattle.survey_make.proofs.making.drawn.Goals as goal
 
 abbrev upper : ℕ → ℕ

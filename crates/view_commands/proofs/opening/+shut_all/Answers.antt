@@ -1,7 +1,7 @@
 use Rattle.std.proofs.Common.{rules, ◌≡◌, ◌∷◌, ap, arith, length, suc}
 use Rattle.std.proofs.lemmas.List.{length-map}
 use Rattle.std.specs.Prelude.{string_bytes}
-use Rattle.view_commands.specs.Serve.{HasPair}
+use Rattle.view_commands.specs.Run.{HasPair}
 use Rattle.std.specs.Vec.Iter.{into_iter_items}
 use Rattle.view_words.specs.CommandLine.{texts}
 use Rattle.view_commands.specs.Steps.{IsUnread}

@@ -9,4 +9,4 @@ returns-in-Some g c = runs-row _ _ _ (texts c.args.words.now) c.run_row.result c
 
 pub returns-in-None : goal.returns-in-None
 returns-in-None g c =
-    runs-none _ _ _ (texts c.args.words.now) c.only.result (sym c.row_of.ensures ∙ c.in-None.is) (record { status = c.only.ensures.status; untouched = same_said (g.D.Desk.says c.args.desk.now); told = c.only.ensures.told })
+    runs-none _ _ _ (texts c.args.words.now) c.only.result (sym c.row_of.ensures ∙ c.in-None.is) (c.only.ensures.status, same_said (g.D.Desk.says c.args.desk.now), c.only.ensures.told)

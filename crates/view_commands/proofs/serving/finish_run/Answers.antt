@@ -1,7 +1,7 @@
 use Rattle.std.proofs.Common.{rules, ◌∙◌, List, ℕ, ap, subst, sym}
 use Rattle.version_store.specs.Histories.{journal}
 use Rattle.view_ends.specs.Desk.{IsKnown}
-use Rattle.view_commands.specs.Serve.{journal_text}
+use Rattle.view_commands.specs.Run.{journal_text}
 use Rattle.view_commands.specs.Texts.{KeepsText}
 use Rattle.turn_gate.specs.Meaning.{Passed}
 use Rattle.version_store.specs.declared.history.Entry.{Entry}

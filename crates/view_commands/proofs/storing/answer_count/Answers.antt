@@ -1,7 +1,7 @@
 use Rattle.std.proofs.Common.{◌∙◌, ◌++◌, List, ℕ, Ok, ap, refl, sym}
 use Rattle.std.specs.Prelude.{codes}
 use Rattle.std.specs.Arc.{arc_value}
-use Rattle.sessions.specs.Replies.{head}
+use Rattle.sessions.specs.Session.{head}
 use Rattle.version_store.specs.Store.{Pinned}
 use Rattle.view_lines.specs.declared.command.Command.TheVariants.{Count}
 use Rattle.view_meaning.specs.Classes.{passing}

@@ -1,6 +1,6 @@
 use Rattle.std.proofs.Common.{◌∙◌, ◌++◌, List, ℕ, ap}
 use Rattle.std.specs.Prelude.{codes}
-use Rattle.sessions.specs.Replies.{head}
+use Rattle.sessions.specs.Session.{head}
 use Rattle.view_commands.proofs.Newest.{answers-edit}
 use Rattle.view_commands.proofs.storing.answer_edit.Goals as goal
 

@@ -1,6 +1,6 @@
 use Rattle.std.proofs.Common.{◌∙◌, sym, subst}
 use Rattle.std.specs.Prelude.{OnOk}
-use Rattle.sessions.specs.Lines.{Item}
+use Rattle.sessions.specs.Session.{Item}
 use Rattle.view_commands.specs.Steps.{Answers, CanAnswer}
 use Rattle.view_commands.proofs.storing.answer_line.Goals as goal
 

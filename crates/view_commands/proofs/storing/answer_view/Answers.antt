@@ -1,7 +1,7 @@
 use Rattle.std.proofs.Common.{◌≡◌, ◌∙◌, ◌++◌, Ok, ap, refl, sym}
 use Rattle.std.specs.Arc.{arc_value}
 use Rattle.std.specs.Prelude.{codes}
-use Rattle.sessions.specs.Replies.{with_length}
+use Rattle.sessions.specs.Session.{with_length}
 use Rattle.version_store.specs.Store.{Pinned}
 use Rattle.view_lines.specs.declared.command.Command.TheVariants.{View}
 use Rattle.view_meaning.specs.Picture.{picture}

@@ -3,7 +3,6 @@ use Rattle.view_base.specs.Cursor.{all_words}
 use Rattle.view_base.specs.Fitting.{word_at}
 use Rattle.view_text.specs.ViewWords.{kind, colouring}
 use Rattle.view_text.proofs.ViewForms.{fits-kind, fits-colouring, fits-classes, fits-withheld, fits-further}
-use Rattle.view_text.proofs.Views.{camera_kind-read, colouring_in-read}
 use Rattle.view_text.proofs.reading.read_said.Goals as goal
 
 pub read-requires-clause-kind : goal.read-requires-clause-kind
@@ -29,14 +28,12 @@ end-requires-clause-last c =
 
 pub returns-clause-colouring : goal.returns-clause-colouring
 returns-clause-colouring c =
-    let ws = all_words c.args.source in
-    let said : colouring (word_at ws 19) ≡ Some c.in_ok-colouring.colouring =
+    let said : colouring (word_at (all_words c.args.source) 19) ≡ Some c.in_ok-colouring.colouring =
     rw (c.in_ok-n.ensures.place, c.in_ok-n.ensures.source, c.in_ok-kind.ensures.source, c.new-rest.ensures.source) at c.in_ok-colouring.ensures.value in
-    colouring_in-read ws c.in_ok-colouring.colouring said
+    said
 
 pub returns-clause-kind : goal.returns-clause-kind
 returns-clause-kind c =
-    let ws = all_words c.args.source in
-    let said : kind (word_at ws 0) ≡ Some c.in_ok-kind.kind =
+    let said : kind (word_at (all_words c.args.source) 0) ≡ Some c.in_ok-kind.kind =
     rw (c.new-rest.ensures.place, c.new-rest.ensures.source) at c.in_ok-kind.ensures.value in
-    camera_kind-read ws c.in_ok-kind.kind said
+    said

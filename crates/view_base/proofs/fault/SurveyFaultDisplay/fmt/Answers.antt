@@ -1,7 +1,7 @@
 use Rattle.std.proofs.Common.{◌≡◌, List, ℕ, ◌++◌, ap, ◌∙◌, append_assoc}
 use Rattle.std.specs.Prelude.{codes, decimal}
-use Rattle.las_survey.specs.FaultText.{text_of}
-use Rattle.las_survey.proofs.fault.SurveyFaultDisplay.fmt.Goals as goal
+use Rattle.view_base.specs.FaultText.{text_of}
+use Rattle.view_base.proofs.fault.SurveyFaultDisplay.fmt.Goals as goal
 
 regrouped : (a b c d : List ℕ) → a ++ b ++ c ++ d ≡ a ++ (b ++ (c ++ d))
 regrouped a b c d = append_assoc (a ++ b) c d ∙ append_assoc a b (c ++ d)
