@@ -21,7 +21,6 @@ use Rattle.view_ends.specs.Ends.{AllStay, OthersStay, NoneForgotten, Rose}
 use Rattle.view_ends.specs.Pieces.{SourceSaid, SinkSaid}
 use Rattle.view_ends.specs.declared.fault.EndFault.{EndFault}
 use Rattle.view_lines.specs.declared.command.Command.TheVariants as command
-use Rattle.view_meaning.specs.Classes as meaning
 use Rattle.view_meaning.specs.Survey.{format_of}
 use Rattle.view_words.specs.CommandLine.{badword, IsLine}
 use Rattle.view_words.specs.declared.row.Row as row
