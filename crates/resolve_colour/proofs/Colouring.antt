@@ -1,8 +1,8 @@
 -- Colours of records, and of words one after another.
-use Rattle.std.proofs.Common.{◌≡◌, [], ◌∷◌, ◌/◌, min, ◌<◌, ◌-◌, ◌^◌, ◌%◌, ◌==◌, ◌++◌, List, length, length-append, take, drop, replicate, take_all, ◌+◌, ◌∙◌, ℕ, Bool, false, Option, Some, None, IfSome, if◌then◌else◌, ap, subst, arith, refl}
+use Rattle.std.proofs.Common.{◌≡◌, [], ◌∷◌, ◌/◌, min, ◌<◌, ◌≤◌, ◌*◌, ◌-◌, ◌^◌, ◌%◌, ◌==◌, ◌++◌, List, length, length-append, take, drop, replicate, take_all, ◌+◌, ◌∙◌, ℕ, Bool, false, Option, Some, None, IfSome, if◌then◌else◌, ap, subst, sym, arith, refl}
 use Rattle.std.proofs.Math.Seq.{take-append_seam, drop-append_seam}
 use Rattle.std.proofs.lemmas.Bool.Decides.{nat_tests}
-use Rattle.std.proofs.lemmas.List.{append-nil, drop_all, length-replicate}
+use Rattle.std.proofs.lemmas.List.{append-nil, drop_all, drop-replicate, length-drop, length-replicate, length-take-le, take-replicate}
 use Rattle.std.specs.Option.{option_map}
 use Rattle.view_base.specs.declared.colour.Rgb.{Rgb}
 use Rattle.view_base.specs.declared.colour.Colouring.TheVariants.{Rgb16, Rgb8, Intensity}
@@ -63,3 +63,17 @@ tail_written old whole colours n m is at size =
     ∙ (ap (λ (l : List ℕ). old ++ colours ++ l) none ∙ append-nil (old ++ colours)) in
     ap (take (length whole)) parts
     ∙ take_all (length whole) (old ++ colours) (omega (arith, length-append old colours, length-append old filled, ap length is, size, long))
+
+-- a filling of bytes 0 at a list's end, alone
+pub tail_black : (old whole : List ℕ) (n m : ℕ) → whole ≡ old ++ replicate m 0 → n ≡ length old → drop n whole ≡ replicate m 0
+tail_black old whole n m is at = ap (λ (k : ℕ). drop k whole) at ∙ (ap (drop (length old)) is ∙ drop-append_seam old (replicate m 0))
+
+-- the black of the first words, and of the others
+pub black_front : (cs ws : List ℕ) (half : ℕ) → cs ≡ replicate (3 * length ws) 0 → half ≤ length ws → take (3 * half) cs ≡ replicate (3 * length (take half ws)) 0
+black_front cs ws half black within =
+    ap (take (3 * half)) black ∙ (take-replicate (3 * half) (3 * length ws) 0 (omega (arith, within)) ∙ ap (λ (n : ℕ). replicate (3 * n) 0) (sym (length-take-le half ws within)))
+
+pub black_back : (cs ws : List ℕ) (half : ℕ) → cs ≡ replicate (3 * length ws) 0 → half ≤ length ws → drop (3 * half) cs ≡ replicate (3 * length (drop half ws)) 0
+black_back cs ws half black within =
+    let left : 3 * length ws - 3 * half ≡ 3 * length (drop half ws) = omega (arith, length-drop half ws, within) in
+    ap (drop (3 * half)) black ∙ (drop-replicate (3 * half) (3 * length ws) 0 ∙ ap (λ (n : ℕ). replicate n 0) left)

@@ -1,5 +1,5 @@
 -- Words that name records of a survey.
-use Rattle.std.specs.Prelude.{◌≡◌, ℕ, ◌*◌, ◌<◌, All, IfSome, List, length, true}
+use Rattle.std.specs.Prelude.{◌≡◌, ℕ, ◌*◌, ◌<◌, All, IfSome, List, length, replicate, true}
 use Rattle.view_base.specs.declared.colour.Colouring.{Colouring}
 use Rattle.view_meaning.specs.Frame.{record_in}
 use Rattle.view_meaning.specs.Picture as picture
@@ -9,9 +9,9 @@ use Rattle.view_meaning.specs.Survey.{record_count, format_of}
 abbrev pub NamesOne : ℕ → ℕ → Type 0
 NamesOne count word = IfSome (record_in word) (λ i. i < count)
 
--- bytes to be written have three for each word, and each word can be painted under these classes
+-- bytes to be written are black, three for each word, and each word can be painted under these classes
 pub record IsPaintable (b cs : List ℕ) (colouring : Colouring) (words colours : List ℕ) : Type 0 where
   pub can_colour : picture.can_colour (format_of b) colouring ≡ true
   pub names : All (NamesOne (record_count b)) words
   pub records : length cs ≡ record_count b
-  pub size : length colours ≡ 3 * length words
+  pub black : colours ≡ replicate (3 * length words) 0

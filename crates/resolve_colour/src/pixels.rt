@@ -1,4 +1,4 @@
-ghost use Rattle.std.specs.Prelude.{◌≡◌, ◌*◌, ◌<◌, ◌≤◌, ◌++◌, All, length, true};
+ghost use Rattle.std.specs.Prelude.{◌≡◌, ◌*◌, ◌<◌, ◌≤◌, ◌++◌, All, length, replicate, true};
 ghost use Rattle.std.specs.List.{flat_map};
 ghost use Rattle.std.specs.Thread.{IsSync};
 ghost use Rattle.resolve_colour.specs.Names.{IsPaintable, NamesOne};
@@ -73,8 +73,9 @@ fn append_colours<R: Threads + Sync, P: Paint + Sync>(
     colour_side_by_side::<R, P>(rt, workers, words, survey, classes, colours);
 }
 
-/// Writes the three bytes of each pixel with one of these words by workers side by side, each with
+/// Writes the three bytes of each pixel with one of these words over black, by workers side by side, each with
 /// its share of the pixels, or by one where they are few.
+#[tactic(auto, using(crate::proofs::Colouring::black_front, crate::proofs::Colouring::black_back))]
 fn colour_side_by_side<R: Threads + Sync, P: Paint + Sync>(
     rt: &R,
     workers: u32,
@@ -86,7 +87,7 @@ fn colour_side_by_side<R: Threads + Sync, P: Paint + Sync>(
     requires can_colour { can_colour (format_of survey.now) P.colouring ≡ true }
     requires names { All (NamesOne (record_count survey.now)) words.now }
     requires records { length classes.now ≡ record_count survey.now }
-    requires size { length colours.old ≡ 3 * length words.now }
+    requires black { colours.old ≡ replicate (3 * length words.now) 0 }
     ensures { colours.new ≡ flat_map (word_colour survey.now classes.now P.colouring) words.now }
 {
     if workers < 2 || words.len() < SHARED {
@@ -119,19 +120,36 @@ fn front_share(pixels: usize, workers: u32) -> usize
     pixels / workers as usize * (workers / 2) as usize
 }
 
-/// Writes the three bytes of each pixel with one of these words.
+/// Writes the three bytes of each pixel with one of these words over black.
 fn colour_pixels<P: Paint>(colours: &mut [u8], words: &[u64], survey: &Survey, classes: &Classes)
     requires can_colour { can_colour (format_of survey.now) P.colouring ≡ true }
     requires names { All (NamesOne (record_count survey.now)) words.now }
     requires records { length classes.now ≡ record_count survey.now }
-    requires size { length colours.old ≡ 3 * length words.now }
+    requires black { colours.old ≡ replicate (3 * length words.now) 0 }
     ensures { colours.new ≡ flat_map (word_colour survey.now classes.now P.colouring) words.now }
 {
     for pixel in 0..words.len() {
-        let [red, green, blue] = colour_of::<P>(words[pixel], survey, classes);
-        colours[3 * pixel] = red;
-        colours[3 * pixel + 1] = green;
-        colours[3 * pixel + 2] = blue;
+        let place = 3 * pixel;
+        paint_over::<P>(
+            &mut colours[place..place + 3],
+            words[pixel],
+            survey,
+            classes,
+        );
+    }
+}
+
+/// Writes the three bytes of a pixel with this word over black, which stays where it names no record.
+#[inline]
+fn paint_over<P: Paint>(pixel: &mut [u8], word: u64, survey: &Survey, classes: &Classes)
+    requires can_colour { can_colour (format_of survey.now) P.colouring ≡ true }
+    requires names { NamesOne (record_count survey.now) word }
+    requires records { length classes.now ≡ record_count survey.now }
+    requires black { pixel.old ≡ replicate 3 0 }
+    ensures { pixel.new ≡ word_colour survey.now classes.now P.colouring word }
+{
+    if word != EMPTY {
+        pixel.copy_from_slice(&colour_of::<P>(word, survey, classes));
     }
 }
 
