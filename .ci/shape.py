@@ -2,7 +2,7 @@
 """Looks at the shape of the sources, and ends with 1 where one of these does not hold:
 
 - no chain of crates is longer than eight, where a crate of definitions alone, the program's `main` and
-  the crate of tests across crates are not counted;
+  the crates of tests across crates are not counted;
 - no source file has more than 400 lines;
 - no clause of a public function has a line above 200 characters;
 - no page of docs/ nor README.md has a paragraph that is wrapped by hand.
@@ -16,7 +16,7 @@ import sys
 
 from sources import ROOT, known_words, stands_on
 
-UNCOUNTED = {"view_meaning", "view_main", "acceptance"}
+UNCOUNTED = {"view_meaning", "view_main", "test_desks", "acceptance_draw", "acceptance_serve", "acceptance_sessions"}
 CHAIN, LINES, CLAUSE = 8, 400, 200
 # What a line of a page begins with that is no further line of a paragraph.
 NO_PROSE = ("|", "#", "-", "```", "    ", "<!--", ">", "1", "2", "3", "4", "5", "6", "7", "8", "9")

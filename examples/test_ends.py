@@ -80,6 +80,7 @@ WITHOUT = (
     "trial_sum.py",
     "try_audit.py",
     "try_headline.py",
+    "try_host_desk.py",
     "try_program.py",
     "try_sessions.py",
     "try_trials.py",
