@@ -149,20 +149,6 @@ fn paint_over<P: Paint>(pixel: &mut [u8], word: u64, survey: &Survey, classes: &
     ensures { pixel.new ≡ word_colour survey.now classes.now P.colouring word }
 {
     if word != EMPTY {
-        pixel.copy_from_slice(&colour_of::<P>(word, survey, classes));
+        pixel.copy_from_slice(&P::paint(survey, classes, (word % (1 << 32)) as u32));
     }
-}
-
-/// The three bytes of a pixel with this word: those of its record, or black.
-#[inline]
-fn colour_of<P: Paint>(word: u64, survey: &Survey, classes: &Classes) -> [u8; 3]
-    requires can_colour { can_colour (format_of survey.now) P.colouring ≡ true }
-    requires names { NamesOne (record_count survey.now) word }
-    requires records { length classes.now ≡ record_count survey.now }
-    ensures { result ≡ word_colour survey.now classes.now P.colouring word }
-{
-    if word == EMPTY {
-        return [0; 3];
-    }
-    P::paint(survey, classes, (word % (1 << 32)) as u32)
 }
