@@ -43,6 +43,20 @@ def nothing(survey, shift=0):
     return above(survey, 1, 4 * survey.side + shift)
 
 
+def seen(part, size):
+    """The words of views of all records or of a part of them, in pictures of a size."""
+    return lambda survey, shift=0: above(survey, part, shift, *size)
+
+
+def all_and_hundredth(size, workers):
+    """Views of one session of a size, of all records and of 1% of them."""
+    group = f"{size[0]} by {size[1]}, a session's view, {workers} {'worker' if workers == 1 else 'workers'}"
+    return {
+        (group, name): talk(1, lambda survey, part=part: views(seen(part, size), survey, 4), workers)
+        for name, part in (("all records", 1), ("1% of them", 100))
+    }
+
+
 CASES = {
     ("parts of a draw, 1 worker", "one pixel that shows nothing"): picture(size=(1, 1), is_empty=True),
     ("parts of a draw, 1 worker", "a picture that shows nothing"): picture(is_empty=True),
@@ -52,7 +66,9 @@ CASES = {
     ("parts of a session, 1 worker", "a view of all records"): talk(1, lambda survey: views(whole, survey, 4), 1),
     **{("records, draw, 1 worker", f"1/{share} of them"): picture(share=share) for share in SHARES},
     **{("pixels, draw, 1 worker", f"{wide} by {high}"): picture(size=(wide, high)) for wide, high in SIZES},
+    **{case: work for size in SIZES[:3] for workers in (1, 4) for case, work in all_and_hundredth(size, workers).items()},
     **{("workers, draw", str(workers)): picture(workers=workers) for workers in (1, 2, 3, 4)},
+    **{("workers, a session's view", str(workers)): talk(1, lambda survey: views(whole, survey, 4), workers) for workers in (1, 2, 4)},
     **{("sessions, a view, 4 workers", str(count)): talk(count, lambda survey: views(whole, survey, 4)) for count in (1, 2, 4, 8, 16)},
 }
 
