@@ -47,7 +47,7 @@ PARTS = [
     (
         "For every LAS file,",
         "`b` is the list of the bytes that SURVEY's file had at the start, at most 2^30 of them, and it is laid out as a survey (`IsLaid`). "
-        "Nothing else is asked of it. Where no such file came, no session runs, and the cause is told (`NoSession`, below).",
+        "Nothing else is asked of it: which files are laid out is `header_faults` and `fault`, below (LAS 1.2 to 1.4, not compressed). Where no such file came, no session runs, and the cause is told (`NoSession`, below).",
         [
             "ServesLine.outcome",
             "IsReadWhole.few",
@@ -82,7 +82,7 @@ PARTS = [
     ),
     (
         "is its commands'",
-        "The items, commands and refused lines, are those of the script, as far as the session came; and no other list of as many would do. "
+        "An item is a command or a refused line, and has a reply either way. The items are those of the script, as far as the session came; and no other list of as many would do. "
         "So a line can't be left out, invented or taken twice. There is one mark for each item (`Makes`, below).",
         [
             "RunsSession.served",
@@ -129,7 +129,7 @@ PARTS = [
     ),
     (
         "never older than that session had seen;",
-        "A mark is the newest version when the entry was made, and marks don't fall. A session of `run` begins with the empty history, so "
+        "What a session had seen is what its marks say: a mark is the newest version when the entry was made, and marks don't fall. A session of `run` begins with the empty history, so "
         "`begins` and `newer` add nothing there; they are for callers of `serve_session` whose pass has seen more.",
         ["Served.rising", "Served.newer"],
     ),
@@ -146,7 +146,7 @@ PARTS = [
     ),
 ]
 BESIDE = (
-    "The record says more than the sentence: what the status is, that no other file changes, what holds where no session ran, and that "
+    "The record says more than the sentence: what the status is, that no other file changes, what holds where no session ran (one name that can't be opened is enough, and outputs that were opened before it are then empty, where the desk tells its files), and that "
     "the run is done, or memory was wanted, where nothing outside failed. By the law `done-whole` of crates/view_commands/proofs/Settled.antt "
     "a run that is done has every session finished and its input read to its end.",
     ["RunsSessions.status", "RunsSessions.files", "NoSession.nothing", "NoSession.untaken", "NoSession.cause", "ServesLine.settled"],
@@ -156,7 +156,7 @@ FIRST = """# The promise of `run`
 
 > {sentence}
 
-This is a clause of `run` (crates/view_commands/src/running.rt): its record `Runs` has, for a `serve` whose words fit, the record `ServesLine`. This page puts each part of the sentence beside the fields that say it, says what they rest on and what is not claimed, works one run out by hand, and then has every definition behind them, from the bottom up, so that none names one that comes later: {definitions} definitions of {lines} lines, and {types} types and constants of the code. A reader needs LAS and some logic; the signs are explained behind the example.
+This is a clause of `run` (crates/view_commands/src/running.rt): its record `Runs` has, for a `serve` whose words fit, the record `ServesLine`. This page puts each part of the sentence beside the fields that say it, says what they rest on and what is not claimed, works one run out by hand, and then has every definition behind them, from the bottom up, so that none names one that comes later (but `Runs` and `RunsLine`, whose lines for the other commands are left out here): {definitions} definitions of {lines} lines, and {types} types and constants of the code. A reader needs LAS and some logic; the signs are explained behind the example.
 
 `.ci/headline.py` makes this page from the sources, and the gate fails where it isn't what they say.
 

@@ -14,7 +14,7 @@ Field = namedtuple("Field", "name sentence text")
 
 DEFINED = re.compile(r"(?:unfoldable pub|abbrev pub|pub record|pub data)\s+(\S+)")
 FIELD = re.compile(r"  pub (\S+) :")
-USE = re.compile(r"^[ \t]*(?:ghost |pub )*use (Rattle|mathlib)\.([\w.]+?)(?:\.\{([^}]*)\})?(?: as (\w+))?[ \t]*;?[ \t]*$", re.M)
+USE = re.compile(r"^[ \t]*(?:ghost |pub )*use (Rattle|mathlib|lib)\.([\w.]+?)(?:\.\{([^}]*)\})?(?: as (\w+))?[ \t]*;?[ \t]*$", re.M)
 WORD = re.compile(r"([^\W\d][\w-]*)(?:\.([^\W\d][\w-]*))?")
 BEGINS = re.compile(r"(?:(?:unfoldable|abbrev|pub|record|data)\s+)*([^\s:({]+)")
 
