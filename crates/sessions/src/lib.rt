@@ -22,6 +22,6 @@ pub use drawing::{Scene, picture};
 pub use end::{Ends, Marks, Reason, SessionEnd};
 pub use heads::{HEAD, append_head};
 pub use replies::{append_count, append_picture, give_file};
-pub use serving::serve_session;
+pub use serving::{INPUT_LIMIT, serve_session};
 pub use version_store::{Entry, History, What};
 pub use world::World;

@@ -19,7 +19,7 @@ use version_store::Pass;
 use view_ends::{Beside, EndFault, Failed, Sink, Source};
 
 /// The most bytes of a session's input.
-pub(crate) const INPUT_LIMIT: usize = 1 << 20;
+pub const INPUT_LIMIT: usize = 1 << 20;
 
 /// How many bytes are asked of a source at once.
 const PIECE: usize = 1 << 14;

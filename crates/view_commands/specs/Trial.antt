@@ -20,7 +20,7 @@ use Rattle.view_commands.specs.declared.status.Status.TheVariants.{Done, Memory}
 
 -- the items of the four lines
 unfoldable pub script : List Item
-script = map (λ line. command_of (words line) FORMAT) (FROM_ABOVE ∷ RECLASSIFY ∷ IN_PERSPECTIVE ∷ COUNT ∷ [])
+script = map (λ line. command_of (words line) FORMAT) (FROM_ABOVE.now ∷ RECLASSIFY.now ∷ IN_PERSPECTIVE.now ∷ COUNT.now ∷ [])
 
 -- the edits that an item publishes
 abbrev pub edits_in : Item → List Edit
