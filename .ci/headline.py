@@ -108,7 +108,7 @@ PARTS = [
     ),
     (
         "and every saved file the read bytes with the classes",
-        "The reply to a save is a line `FILE` with version and length, and then `saved`, which differs from `b` in class bits alone. So a saved file is those bytes of OUT.",
+        "The reply to a save is a line `FILE` with version and length, and then `saved`, which differs from `b` in class bits alone. So a saved file is those bytes of OUT; the last reply may be cut where writing failed or memory was wanted, a saved file or a picture too.",
         ["reply = Save"],
     ),
     (
@@ -133,7 +133,7 @@ PARTS = [
         "`begins` and `newer` add nothing there; they are for callers of `serve_session` whose pass has seen more.",
         ["Served.rising", "Served.newer"],
     ),
-    ("a session stops early only for want of memory,", "Of the reasons of an end `Memory` is the only one without a cause.", []),
+    ("a session stops early only for want of memory,", "Of the reasons of an end `Memory` is the only one without a cause. A session that is `Finished` has processed all items of its whole input (`MayProcess`). Where a name can't be opened, no session of the run begins.", []),
     (
         "a stated limit",
         "`SessionLimit` comes exactly where byte 2^20 + 1 of the input came.",
