@@ -14,6 +14,7 @@ import signal
 import subprocess
 import sys
 import tempfile
+import time
 import threading
 import unittest
 
@@ -148,8 +149,11 @@ class Passing(Launcher):
             child.communicate(b"line\n")
             child = self.start(words, "exec 3>&1 <&- ; echo ready; while kill -0 $PPID; do sleep 0.01; done")
             child.stdout.readline()
+            # The launcher closes its own end at about the same time.
             with self.assertRaises(BrokenPipeError):
-                os.write(child.stdin.fileno(), b"line\n")
+                for _ in range(1000):
+                    os.write(child.stdin.fileno(), b"line\n")
+                    time.sleep(0.01)
             child.kill()
             child.wait()
 
