@@ -14,8 +14,8 @@ import signal
 import subprocess
 import sys
 import tempfile
-import time
 import threading
+import time
 import unittest
 
 ROOT = os.path.dirname(os.path.dirname(os.path.realpath(__file__)))
