@@ -1,7 +1,7 @@
 -- What a format has for a command that was read.
-use Rattle.std.proofs.Common.{◌≡◌, ℕ, ◌≤◌, Option, Some, None, Ok, Err, IfOk, Result, List, [], ◌∷◌, inl, inr, subst}
+use Rattle.std.proofs.Common.{◌≡◌, ℕ, ◌≤◌, Bool, true, false, Option, Some, None, Ok, Err, IfOk, Result, List, inl, inr, subst}
 use Rattle.std.specs.Option.{option_map_or}
-use Rattle.std.specs.Prelude.{unwrap_or}
+use Rattle.std.specs.Prelude.{unwrap_or, if◌then◌else◌}
 use Rattle.std.proofs.lemmas.Bool.{cases_lt, le-leb, lt-leb}
 use Rattle.view_base.specs.Text.{digits}
 use Rattle.view_base.specs.Fitting.{word_at, misfit}
@@ -12,7 +12,8 @@ use Rattle.edit_ops.specs.EditLine.{fits, is_whole, ranged_edit, edit_of}
 use Rattle.view_lines.specs.declared.command.Command.{Command}
 use Rattle.view_lines.specs.declared.command.Command.TheVariants.{View, Edit, Count, Save}
 use Rattle.view_lines.specs.declared.refusal.Refusal.{Refusal}
-use Rattle.view_lines.specs.Command.{FitsFormat, save_of}
+use Rattle.view_lines.specs.declared.refusal.Refusal.TheVariants as refused
+use Rattle.view_lines.specs.Command.{FitsFormat}
 
 ranged_edit-room : (ws : List (List ℕ)) (format to : ℕ) (e : meaning.Edit) → ranged_edit ws format to ≡ Ok e → e.to ≤ top_class format
 ranged_edit-room ws format to e is =
@@ -34,11 +35,11 @@ unfolding edit_of
 edit_of-room ws format e is = misfit-room (misfit fits is_whole ws) ws format (unwrap_or (digits (word_at ws 8)) 0) e is
 
 -- a save needs nothing of the format
-pub save_of-fits : (ws : List (List ℕ)) (format : ℕ) (read : Result Command Refusal) → read ≡ save_of ws → IfOk read (FitsFormat format)
-save_of-fits [] format (Ok (View view)) is = absurd (cc is)
-save_of-fits [] format (Ok (Edit e)) is = absurd (cc is)
-save_of-fits [] format (Ok (Count filter)) is = tt
-save_of-fits [] format (Ok Save) is = tt
-save_of-fits [] format (Err refusal) is = tt
-save_of-fits (word ∷ others) format (Ok command) is = absurd (cc is)
-save_of-fits (word ∷ others) format (Err refusal) is = tt
+pub save-fits : (alone : Bool) (format : ℕ) (read : Result Command Refusal) → read ≡ (if alone then Ok Save else Err refused.Line) → IfOk read (FitsFormat format)
+save-fits true format (Ok (View view)) is = absurd (cc is)
+save-fits true format (Ok (Edit e)) is = absurd (cc is)
+save-fits true format (Ok (Count filter)) is = tt
+save-fits true format (Ok Save) is = tt
+save-fits true format (Err refusal) is = tt
+save-fits false format (Ok command) is = absurd (cc is)
+save-fits false format (Err refusal) is = tt

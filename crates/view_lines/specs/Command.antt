@@ -1,7 +1,8 @@
 -- The commands of a session's lines: `view` and the words of a view, `edit` and the words of an edit, `count` and the
 -- words of a filter, and `save`.
-use Rattle.std.specs.Prelude.{◌≡◌, ℕ, ◌≤◌, true, List, [], ◌∷◌, codes, Result, Ok, Err, if◌then◌else◌}
+use Rattle.std.specs.Prelude.{◌≡◌, ℕ, ◌≤◌, ◌==◌, ◌&&◌, true, List, [], ◌∷◌, length, codes, Result, Ok, Err, if◌then◌else◌}
 use Rattle.std.specs.Str.{bytes_eq}
+use Rattle.std.specs.Result.{result_map_both}
 use Rattle.view_meaning.specs.Picture as picture
 use Rattle.view_meaning.specs.Classes as meaning
 use Rattle.view_text.specs.declared.fault.TextFault as text
@@ -28,24 +29,14 @@ edited (Ok e) = Ok (Edit e)
 edited (Err (unfit.Line at)) = Err Line
 edited (Err (unfit.ClassRange class)) = Err ClassRange
 
--- the command of a filter, or why it is refused
-abbrev pub counted : Result meaning.Filter text.TextFault → Result command.Command refusal.Refusal
-counted (Ok filter) = Ok (Count filter)
-counted (Err _) = Err Line
-
--- the command of a line that begins with `save` and goes on with these words: it has no others
-abbrev pub save_of : List (List ℕ) → Result command.Command refusal.Refusal
-save_of [] = Ok Save
-save_of (word ∷ others) = Err Line
-
--- the command of a line by its words, for a point format, or why it is refused
+-- the command of a line by its words, for a point format, or why it is refused: `save` has no other words
 unfoldable pub command_of : List (List ℕ) → ℕ → Result command.Command refusal.Refusal
 command_of [] format = Err Line
 command_of (word ∷ others) format =
     if bytes_eq word (codes "view") then viewed format (view_of others)
     else if bytes_eq word (codes "edit") then edited (edit_of (word ∷ others) format)
-    else if bytes_eq word (codes "count") then counted (filter_of others)
-    else if bytes_eq word (codes "save") then save_of others else Err Line
+    else if bytes_eq word (codes "count") then result_map_both Count (λ _. Line) (filter_of others)
+    else if bytes_eq word (codes "save") && length others == 0 then Ok Save else Err Line
 
 -- a point format has what a command needs: red, green and blue for a view that shows them, and room for the class of
 -- an edit

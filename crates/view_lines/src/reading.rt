@@ -1,8 +1,9 @@
-ghost use Rattle.std.specs.Prelude.{◌≡◌, ◌≤◌, IfOk};
+ghost use Rattle.std.specs.Prelude.{◌≡◌, ◌≤◌, ◌==◌, length, Ok, Err, IfOk, if◌then◌else◌};
+ghost use Rattle.std.specs.Result.{result_map_both};
 ghost use Rattle.view_base.specs.Text.{words};
 ghost use Rattle.view_text.specs.ViewWords.{view_of, filter_of};
 ghost use Rattle.edit_ops.specs.EditLine.{edit_of};
-ghost use Rattle.view_lines.specs.Command.{viewed, edited, counted, save_of, command_of, FitsFormat};
+ghost use Rattle.view_lines.specs.Command.{viewed, edited, command_of, FitsFormat};
 
 use crate::command::Command;
 use crate::refusal::Refusal;
@@ -45,7 +46,7 @@ fn edit_command(line: &[u8], format: u8) -> Result<Command, Refusal>
 
 /// The command of the words of a filter.
 fn count_command(text: &[u8]) -> Result<Command, Refusal>
-    ensures { result ≡ counted (filter_of (words text.now)) }
+    ensures { result ≡ result_map_both Command.Count (λ _. Refusal.Line) (filter_of (words text.now)) }
 {
     match read_filter(text) {
         Ok(filter) => Ok(Command::Count(filter)),
@@ -55,7 +56,7 @@ fn count_command(text: &[u8]) -> Result<Command, Refusal>
 
 /// The command of a line that goes on with this text after the word `save`.
 fn save_command(rest: &[u8]) -> Result<Command, Refusal>
-    ensures { result ≡ save_of (words rest.now) }
+    ensures { result ≡ (if length (words rest.now) == 0 then Ok Command.Save else Err Refusal.Line) }
 {
     match next_word(rest, 0) {
         Some(_) => Err(Refusal::Line),

@@ -1,7 +1,7 @@
 use Rattle.std.proofs.Common.{◌∙◌, sym}
 use Rattle.std.proofs.lemmas.List.{take_rest}
 use Rattle.view_lines.proofs.CommandOf.{bytes_eq-answered, command_of-wordless, command_of-view, command_of-edit, command_of-count, command_of-save, command_of-other}
-use Rattle.view_lines.proofs.Rooms.{save_of-fits}
+use Rattle.view_lines.proofs.Rooms.{save-fits}
 use Rattle.view_lines.proofs.reading.read_command.Goals as goal
 
 pub returns-in_default-clause-command : goal.returns-in_default-clause-command
@@ -37,7 +37,7 @@ returns-then-eq-4-clause-command c =
     command ∙ sym (command_of-save c.args.line.now _ _ c.args.format c.in-Some.ensures.word view edit count save)
 
 pub returns-then-eq-4-clause-fits : goal.returns-then-eq-4-clause-fits
-returns-then-eq-4-clause-fits c = save_of-fits _ c.args.format c.save_command.result c.save_command.ensures
+returns-then-eq-4-clause-fits c = save-fits _ c.args.format c.save_command.result c.save_command.ensures
 
 pub returns-clause-command : goal.returns-clause-command
 returns-clause-command c =
