@@ -1,6 +1,6 @@
 -- The words of a view, `KIND W H EX EY EZ RX RY RZ DX DY DZ FX FY FZ K T NEAR FAR COLOUR CLASSES WITHHELD`, of which
 -- the last two are the words of a filter.
-use Rattle.std.specs.Prelude.{ℕ, ◌+◌, ◌-◌, ◌==◌, nat_le, ℤ, pos, Bool, true, false, List, map, codes, Option, Some, None, is_some, unwrap_or, Result, Ok, Err, if◌then◌else◌}
+use Rattle.std.specs.Prelude.{ℕ, ◌+◌, ◌-◌, ◌==◌, ◌&&◌, nat_le, ℤ, pos, Bool, true, false, List, map, codes, Option, Some, None, is_some, unwrap_or, Result, Ok, Err, if◌then◌else◌}
 use Rattle.std.specs.List.{range_with_len}
 use Rattle.std.specs.Option.{option_map_or}
 use Rattle.std.specs.Str.{bytes_eq}
@@ -33,8 +33,7 @@ hides word = if bytes_eq word (codes "show") then Some false else if bytes_eq wo
 
 -- whether a word fits this place of a filter: a class list, and what becomes of withheld records
 unfoldable pub fits_filter : ℕ → List ℕ → Bool
-fits_filter place word =
-    if place == 0 then is_some (class_list word) else if place == 1 then is_some (hides word) else false
+fits_filter place word = if place == 0 then is_some (class_list word) else place == 1 && is_some (hides word)
 
 -- whether a word fits this place of a view: a kind of camera, eighteen numbers, a colouring, and the words of a filter
 unfoldable pub fits : ℕ → List ℕ → Bool
@@ -42,14 +41,6 @@ fits place word =
     if place == 0 then is_some (kind word)
     else if nat_le place 18 then is_some (number word)
     else if place == 19 then is_some (colouring word) else fits_filter (place - 20) word
-
--- a filter has two words
-abbrev pub is_pair : ℕ → Bool
-is_pair count = count == 2
-
--- a view has twenty-two words
-abbrev pub is_whole : ℕ → Bool
-is_whole count = count == 22
 
 -- the filter that the words from a place on describe, where they fit
 unfoldable pub filter_at : List (List ℕ) → ℕ → Filter
@@ -74,10 +65,10 @@ fitting_view ws =
     view_through (unwrap_or (kind (word_at ws 0)) Ortho) (camera_numbers ws)
     (unwrap_or (colouring (word_at ws 19)) Class) (filter_at ws 20)
 
--- the view of words, or why it is none: first a word that doesn't fit, then a camera number out of its range
+-- the view of twenty-two words, or why it is none: first a word that doesn't fit, then a camera number out of its range
 unfoldable pub view_of : List (List ℕ) → Result View TextFault
-view_of ws = option_map_or (λ at. Err (Line at)) (misfit fits is_whole ws) (fitting_view ws)
+view_of ws = option_map_or (λ at. Err (Line at)) (misfit fits (λ count. count == 22) ws) (fitting_view ws)
 
--- the filter of words, or the first that doesn't fit
+-- the filter of two words, or the first that doesn't fit
 unfoldable pub filter_of : List (List ℕ) → Result Filter TextFault
-filter_of ws = option_map_or (λ at. Err (Line at)) (misfit fits_filter is_pair ws) (Ok (filter_at ws 0))
+filter_of ws = option_map_or (λ at. Err (Line at)) (misfit fits_filter (λ count. count == 2) ws) (Ok (filter_at ws 0))

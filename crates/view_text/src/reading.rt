@@ -1,9 +1,9 @@
-ghost use Rattle.std.specs.Prelude.{◌≡◌, ◌+◌, ◌<◌, List, ℕ, false, is_some, Some, None, OnOk, IfOk, IfErr};
+ghost use Rattle.std.specs.Prelude.{◌≡◌, ◌+◌, ◌==◌, ◌<◌, List, ℕ, false, is_some, Some, None, OnOk, IfOk, IfErr};
 ghost use Rattle.view_base.specs.Text.{words};
 ghost use Rattle.view_base.specs.Fitting.{word_at, misfit};
 ghost use Rattle.view_base.specs.Cursor.{all_words};
 ghost use Rattle.class_bits.specs.ClassSet.{class_list};
-ghost use Rattle.view_text.specs.ViewWords.{fits, fits_filter, hides, is_pair, is_whole, kind, colouring, camera_numbers, filter_at, filter_of, view_of, view_through};
+ghost use Rattle.view_text.specs.ViewWords.{fits, fits_filter, hides, kind, colouring, camera_numbers, filter_at, filter_of, view_of, view_through};
 
 use crate::fault::TextFault;
 use crate::kinds::{CameraWord, ColouringWord, WithheldWord};
@@ -18,7 +18,7 @@ struct ViewForm;
 impl Form for ViewForm {
     ghost fits = { fits };
 
-    ghost whole = { is_whole };
+    ghost whole = { λ count. count == 22 };
 }
 
 /// The words of a filter.
@@ -27,7 +27,7 @@ struct FilterForm;
 impl Form for FilterForm {
     ghost fits = { fits_filter };
 
-    ghost whole = { is_pair };
+    ghost whole = { λ count. count == 2 };
 }
 
 /// What the words of a view say.
@@ -45,7 +45,7 @@ fn read_numbers(rest: &mut Cursor<ViewForm>) -> Result<[i128; 18], u32>
     ensures place { OnOk result (rest.new.place ≡ 19) }
     ensures numbers { IfOk result (λ n. n ≡ camera_numbers (all_words rest.old.source)) }
     ensures misfit { IfErr result
-        (λ at. misfit fits is_whole (all_words rest.old.source) ≡ Some at) }
+        (λ at. misfit fits (λ count. count == 22) (all_words rest.old.source) ≡ Some at) }
 {
     let mut numbers = [0; 18];
     for i in 0..18 {
@@ -77,13 +77,13 @@ fn read_filter_words<F: Form>(rest: &mut Cursor<F>) -> Result<Filter, u32>
 
 /// What the words of a view say, or the first place where they don't fit.
 fn read_said(source: WordsOf) -> Result<Said, u32>
-    ensures fit { OnOk result (misfit fits is_whole (all_words source.entry) ≡ None) }
+    ensures fit { OnOk result (misfit fits (λ count. count == 22) (all_words source.entry) ≡ None) }
     ensures kind { IfOk result (λ s. kind (word_at (all_words source.entry) 0) ≡ Some s.numbers.kind) }
     ensures numbers { IfOk result (λ s. s.numbers.n ≡ camera_numbers (all_words source.entry)) }
     ensures colouring { IfOk result (λ s. colouring (word_at (all_words source.entry) 19) ≡ Some s.colouring) }
     ensures filter { IfOk result (λ s. s.filter ≡ filter_at (all_words source.entry) 20) }
     ensures misfit { IfErr result
-        (λ at. misfit fits is_whole (all_words source.entry) ≡ Some at) }
+        (λ at. misfit fits (λ count. count == 22) (all_words source.entry) ≡ Some at) }
 {
     let mut rest = Cursor::<ViewForm>::new(source);
     let kind = rest.read::<CameraWord>()?;
@@ -134,9 +134,9 @@ pub fn read_view(line: &[u8]) -> Result<ViewSpec, TextFault>
 
 /// The filter of the words of a line, or the first place where they don't fit.
 fn read_pair(line: &[u8]) -> Result<Filter, u32>
-    ensures fit { OnOk result (misfit fits_filter is_pair (words line.now) ≡ None) }
+    ensures fit { OnOk result (misfit fits_filter (λ count. count == 2) (words line.now) ≡ None) }
     ensures filter { IfOk result (λ f. f ≡ filter_at (words line.now) 0) }
-    ensures misfit { IfErr result (λ at. misfit fits_filter is_pair (words line.now) ≡ Some at) }
+    ensures misfit { IfErr result (λ at. misfit fits_filter (λ count. count == 2) (words line.now) ≡ Some at) }
 {
     let mut rest = Cursor::<FilterForm>::new(WordsOf::Line(line));
     let filter = read_filter_words(&mut rest)?;

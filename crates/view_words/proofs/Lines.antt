@@ -2,27 +2,28 @@
 use Rattle.std.proofs.Common.{◌≡◌, ◌≢◌, ℕ, suc, ◌+◌, ◌*◌, ◌/◌, ◌-◌, ◌<◌, ◌≤◌, List, [], ◌∷◌, Option, Some, None, Ok, Err, IsSome, ℤ, pos, negsuc, Bool, true, false, length, drop, take, map, refl, sym, ◌∙◌, ap, subst, arith, length-drop}
 use Rattle.std.proofs.lemmas.Bool.Decides.{nat_tests}
 use Rattle.std.proofs.lemmas.List.{drop-map, get_or-drop, length-map}
-use Rattle.std.specs.Option.{option_map_or}
+use Rattle.std.specs.Option.{option_map_or, option_and_then}
 use Rattle.std.proofs.Math.Seq.{take-length}
 use Rattle.std.specs.Prelude.{String, string_bytes, ◌==◌, ◌%◌, not, nat_le, ◌&&◌, ◌^◌, is_none, if◌then◌else◌}
 use Rattle.view_base.specs.Text.{number}
 use Rattle.view_base.specs.Fitting.{word_at}
+use Rattle.view_meaning.specs.Camera.{between}
 use Rattle.view_words.specs.declared.row.Row.{Row}
 use Rattle.view_words.specs.declared.row.Row.TheVariants.{Draw, Info, Trial, Serve}
 use Rattle.view_words.specs.declared.kind.WordKind.{WordKind}
 use Rattle.view_words.specs.declared.kind.WordKind.TheVariants.{Workers, Start, Records}
-use Rattle.view_words.specs.CommandLine.{texts, kind_at, within, number_within, is_refused_as, is_refused, is_whole, least_words, IsLine, workers_place, view_words}
+use Rattle.view_words.specs.CommandLine.{texts, kind_at, number_within, is_refused, is_whole, least_words, IsLine, workers_place}
 use Rattle.view_words.proofs.Refusals.{is_refused-kind, unrefused, whole, unrefused_few, line_begins}
 
 pub length-texts : {Y : Type 0} (words : List (String Y)) → length (texts words) ≡ length words
 length-texts words = length-map words string_bytes
 
 -- no word of a line is refused
-pub line_unrefused : (row : Row) (ws : List (List ℕ)) → IsLine row ws → (k : ℕ) → k < length ws → is_refused row ws k ≡ false
+pub line_unrefused : (row : Row) (ws : List (List ℕ)) → IsLine row ws → (k : ℕ) → k < length ws → is_refused (kind_at row k) row ws k ≡ false
 line_unrefused row ws line = unrefused row ws (line_begins row ws line).1
 
 -- no word of a line is refused as what its row has at the place
-pub line_at : (row : Row) (ws : List (List ℕ)) (k : ℕ) (kind : WordKind) → IsLine row ws → k < length ws → kind_at row k ≡ kind → is_refused_as kind row ws k ≡ false
+pub line_at : (row : Row) (ws : List (List ℕ)) (k : ℕ) (kind : WordKind) → IsLine row ws → k < length ws → kind_at row k ≡ kind → is_refused kind row ws k ≡ false
 line_at row ws k kind line below is = sym (is_refused-kind row ws k kind is) ∙ line_unrefused row ws line k below
 
 -- a line has all its words
@@ -97,7 +98,7 @@ pub number_within-records : (ws : List (List ℕ)) → IsLine Trial ws → IsSom
 unfolding kind_at
 number_within-records ws line = is_some_number (number_within 0 (2 ^ 23) (word_at ws 2)) (line_at Trial ws 2 Records line (omega (arith, length-trial ws line)) refl)
 
-within_is : (least greatest n : ℕ) (o : Option ℤ) → within least greatest o ≡ Some n → (o ≡ Some (pos n)) × (least ≤ n) × (n ≤ greatest)
+within_is : (least greatest n : ℕ) (o : Option ℤ) → option_and_then (λ z. between z least greatest) o ≡ Some n → (o ≡ Some (pos n)) × (least ≤ n) × (n ≤ greatest)
 within_is least greatest n None is = absurd (cc is)
 within_is least greatest n (Some (negsuc m)) is = absurd (cc is)
 within_is least greatest n (Some (pos m)) is = two (nat_le least m && nat_le m greatest) refl is
@@ -115,7 +116,7 @@ pub number_within-is : (least greatest n : ℕ) (word : List ℕ) → number_wit
 number_within-is least greatest n word is = within_is least greatest n (number word) is
 
 -- the texts of the words from place 4 on
-pub texts-from : {Y : Type 0} (words : List (String Y)) → 4 ≤ length words → map string_bytes (take (length words - 4) (drop 4 words)) ≡ view_words (texts words)
+pub texts-from : {Y : Type 0} (words : List (String Y)) → 4 ≤ length words → map string_bytes (take (length words - 4) (drop 4 words)) ≡ drop 4 (texts words)
 texts-from words long =
     let size : length (drop 4 words) ≡ length words - 4 = length-drop 4 words in
     ap (λ (n : ℕ). map string_bytes (take n (drop 4 words))) (sym size) ∙ ap (map string_bytes) (take-length (drop 4 words)) ∙ sym (drop-map string_bytes 4 words)

@@ -11,24 +11,23 @@ use Rattle.view_base.specs.Fitting.{word_at}
 use Rattle.view_words.specs.declared.row.Row.{Row}
 use Rattle.view_words.specs.declared.row.Row.TheVariants.{Draw, Info, Trial, Serve}
 use Rattle.view_words.specs.declared.kind.WordKind.{WordKind}
-use Rattle.view_words.specs.CommandLine.{command, all_rows, row_in, kind_at, is_refused_as, is_refused, is_whole, badword_in, badword, IsLine}
+use Rattle.view_words.specs.CommandLine.{command, all_rows, row_in, kind_at, is_refused, is_whole, badword_in, badword, IsLine}
 use Rattle.view_words.proofs.Places.{find_passes}
 
 -- a word of a known kind
-pub is_refused-kind : (row : Row) (ws : List (List ℕ)) (k : ℕ) (kind : WordKind) → kind_at row k ≡ kind → is_refused row ws k ≡ is_refused_as kind row ws k
-unfolding is_refused
-is_refused-kind row ws k kind is = ap (λ (kind : WordKind). is_refused_as kind row ws k) is
+pub is_refused-kind : (row : Row) (ws : List (List ℕ)) (k : ℕ) (kind : WordKind) → kind_at row k ≡ kind → is_refused (kind_at row k) row ws k ≡ is_refused kind row ws k
+is_refused-kind row ws k kind is = ap (λ (kind : WordKind). is_refused kind row ws k) is
 
 -- no row has a word at place 36
-pub is_refused-past : (row : Row) (ws : List (List ℕ)) → is_refused row ws 36 ≡ true
-unfolding is_refused kind_at
+pub is_refused-past : (row : Row) (ws : List (List ℕ)) → is_refused (kind_at row 36) row ws 36 ≡ true
+unfolding kind_at
 is_refused-past Draw ws = refl
 is_refused-past Info ws = refl
 is_refused-past Trial ws = refl
 is_refused-past Serve ws = refl
 
 -- so many words that none is refused are at most 36
-pub unrefused_few : (row : Row) (ws : List (List ℕ)) (n : ℕ) → ((k : ℕ) → k < n → is_refused row ws k ≡ false) → n ≤ 36
+pub unrefused_few : (row : Row) (ws : List (List ℕ)) (n : ℕ) → ((k : ℕ) → k < n → is_refused (kind_at row k) row ws k ≡ false) → n ≤ 36
 unrefused_few row ws n none =
     elim (cases_lt 36 n) [
       | inl longer ↦ absurd (cc (none 36 longer, is_refused-past row ws))
@@ -36,28 +35,28 @@ unrefused_few row ws n none =
     ]
 
 -- a refused word after words that aren't
-pub badword_in-refused : (row : Row) (ws : List (List ℕ)) (at : ℕ) → at < length ws → ((k : ℕ) → k < at → is_refused row ws k ≡ false) → is_refused row ws at ≡ true → badword_in row ws ≡ Some at
+pub badword_in-refused : (row : Row) (ws : List (List ℕ)) (at : ℕ) → at < length ws → ((k : ℕ) → k < at → is_refused (kind_at row k) row ws k ≡ false) → is_refused (kind_at row at) row ws at ≡ true → badword_in row ws ≡ Some at
 unfolding badword_in
 badword_in-refused row ws at below before here = misfit-at _ _ ws at below (λ k early. ap not (before k early)) (ap not here)
 
 -- words of which none is refused, and one is missing
-pub badword_in-missing : (row : Row) (ws : List (List ℕ)) → ((k : ℕ) → k < length ws → is_refused row ws k ≡ false) → is_whole row (length ws) ≡ false → badword_in row ws ≡ Some (length ws)
+pub badword_in-missing : (row : Row) (ws : List (List ℕ)) → ((k : ℕ) → k < length ws → is_refused (kind_at row k) row ws k ≡ false) → is_whole row (length ws) ≡ false → badword_in row ws ≡ Some (length ws)
 unfolding badword_in
 badword_in-missing row ws none part = misfit-short _ _ ws (λ k below. ap not (none k below)) part
 
 -- words of which none is refused or missing
-pub badword_in-none : (row : Row) (ws : List (List ℕ)) → ((k : ℕ) → k < length ws → is_refused row ws k ≡ false) → is_whole row (length ws) ≡ true → badword_in row ws ≡ None
+pub badword_in-none : (row : Row) (ws : List (List ℕ)) → ((k : ℕ) → k < length ws → is_refused (kind_at row k) row ws k ≡ false) → is_whole row (length ws) ≡ true → badword_in row ws ≡ None
 unfolding badword_in
 badword_in-none row ws none whole = misfit-none _ _ ws (λ k below. ap not (none k below)) whole
 
 -- in words that fit none is refused and none is missing
-pub unrefused : (row : Row) (ws : List (List ℕ)) → badword_in row ws ≡ None → (k : ℕ) → k < length ws → is_refused row ws k ≡ false
+pub unrefused : (row : Row) (ws : List (List ℕ)) → badword_in row ws ≡ None → (k : ℕ) → k < length ws → is_refused (kind_at row k) row ws k ≡ false
 unfolding badword_in
-unrefused row ws fits k below = not-true (is_refused row ws k) (fits-each (λ k word. not (is_refused row ws k)) (is_whole row) ws k fits below)
+unrefused row ws fits k below = not-true (is_refused (kind_at row k) row ws k) (fits-each (λ k word. not (is_refused (kind_at row k) row ws k)) (is_whole row) ws k fits below)
 
 pub whole : (row : Row) (ws : List (List ℕ)) → badword_in row ws ≡ None → is_whole row (length ws) ≡ true
 unfolding badword_in
-whole row ws fits = fits-whole (λ k word. not (is_refused row ws k)) (is_whole row) ws fits
+whole row ws fits = fits-whole (λ k word. not (is_refused (kind_at row k) row ws k)) (is_whole row) ws fits
 
 -- words that begin one of the rows that are taken, or none of them
 pub badword-begun : (rows : List Row) (row : Row) (ws : List (List ℕ)) → row_in rows ws ≡ Some row → badword rows ws ≡ badword_in row ws

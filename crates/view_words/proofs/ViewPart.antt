@@ -10,7 +10,6 @@ use Rattle.view_base.specs.Fitting.{word_at, fitting, misfit}
 use Rattle.view_meaning.specs.Picture.{View}
 use Rattle.view_text.specs.declared.fault.TextFault.{TextFault}
 use Rattle.view_text.specs.declared.fault.TextFault.TheVariants.{Line, Limit}
-use Rattle.view_text.specs.ViewWords as view
 use Rattle.view_text.specs.ViewWords.{fits, fits_filter, kind, colouring, camera_numbers, filter_at, fitting_view, view_of}
 use Rattle.int_camera.specs.declared.numbers.CameraLimit.{CameraLimit}
 use Rattle.int_camera.specs.declared.numbers.Kind.TheVariants.{Ortho}
@@ -18,7 +17,7 @@ use Rattle.int_camera.specs.Limits.{first_outside, lens_of, projection_of}
 use Rattle.view_words.specs.declared.row.Row.{Row}
 use Rattle.view_words.specs.declared.row.Row.TheVariants.{Draw, Info, Trial, Serve}
 use Rattle.view_words.specs.declared.kind.WordKind.TheVariants.{ViewWord}
-use Rattle.view_words.specs.CommandLine.{kind_at, is_refused, badword_in, badword, IsLine, texts, view_words, drawn_view, draw_of}
+use Rattle.view_words.specs.CommandLine.{kind_at, is_refused, badword_in, badword, IsLine, texts, drawn_view, draw_of}
 use Rattle.view_words.specs.Parts.{IsBeforeView, refused_at}
 use Rattle.view_words.proofs.Refusals.{is_refused-kind}
 use Rattle.view_words.proofs.Lines.{length-texts, texts-from}
@@ -66,17 +65,17 @@ found_few : (b : Bool) (n at most : ℕ) → n ≤ most → cond b None (Some n)
 found_few true n at most few is = absurd (cc is)
 found_few false n at most few is = let same : n ≡ at = cc is in omega (arith, same, few)
 
-misfit_few : (ws : List (List ℕ)) (at : ℕ) → misfit fits view.is_whole ws ≡ Some at → at ≤ 22
+misfit_few : (ws : List (List ℕ)) (at : ℕ) → misfit fits (λ count. count == 22) ws ≡ Some at → at ≤ 22
 unfolding misfit
 misfit_few ws at is =
-    found_few (eqb (fitting fits 0 ws) (length ws) && view.is_whole (length ws)) (fitting fits 0 ws) at 22 (fitting-few fits ws 0 22 fits-last) is
+    found_few (eqb (fitting fits 0 ws) (length ws) && length ws == 22) (fitting fits 0 ws) at 22 (fitting-few fits ws 0 22 fits-last) is
 
 view_place : (k : ℕ) → k < 22 → kind_at Draw (4 + k) ≡ ViewWord k
 unfolding kind_at
 view_place k within = grind (arith, nat_tests)
 
-past_place : (ws : List (List ℕ)) (k : ℕ) → 22 ≤ k → is_refused Draw ws (4 + k) ≡ true
-unfolding is_refused kind_at
+past_place : (ws : List (List ℕ)) (k : ℕ) → 22 ≤ k → is_refused (kind_at Draw (4 + k)) Draw ws (4 + k) ≡ true
+unfolding kind_at
 past_place ws k past =
     let far : nat_le (4 + k) 25 ≡ false = grind (arith, nat_tests) in
     rw (ne_eqb (4 + k) 0 (omega arith), ne_eqb (4 + k) 1 (omega arith), ne_eqb (4 + k) 2 (omega arith), ne_eqb (4 + k) 3 (omega arith), far) refl
@@ -92,7 +91,7 @@ not_not true = refl
 not_not false = refl
 
 -- a view word is accepted where it fits its place in a view
-view_word : (ws : List (List ℕ)) (k : ℕ) → not (is_refused Draw ws (4 + k)) ≡ fits k (word_at (drop 4 ws) k)
+view_word : (ws : List (List ℕ)) (k : ℕ) → not (is_refused (kind_at Draw (4 + k)) Draw ws (4 + k)) ≡ fits k (word_at (drop 4 ws) k)
 view_word ws k =
     elim (cases_lt k 22) [
       | inl within ↦
@@ -101,11 +100,11 @@ view_word ws k =
     ]
 
 -- a `draw` whose words before the view fit is refused for the view's
-pub badword_in-draw : (ws : List (List ℕ)) → 4 ≤ length ws → ((k : ℕ) → k < 4 → is_refused Draw ws k ≡ false) → badword_in Draw ws ≡ option_map (λ at. 4 + at) (misfit fits view.is_whole (drop 4 ws))
+pub badword_in-draw : (ws : List (List ℕ)) → 4 ≤ length ws → ((k : ℕ) → k < 4 → is_refused (kind_at Draw k) Draw ws k ≡ false) → badword_in Draw ws ≡ option_map (λ at. 4 + at) (misfit fits (λ count. count == 22) (drop 4 ws))
 unfolding badword_in misfit
 badword_in-draw ws long first =
     let zero_and : (n : ℕ) → 0 + n ≡ n = λ n. omega arith in
-    let accepts : ℕ → List ℕ → Bool = λ k word. not (is_refused Draw ws k) in
+    let accepts : ℕ → List ℕ → Bool = λ k word. not (is_refused (kind_at Draw k) Draw ws k) in
     let after = fitting-after accepts ws 0 4 long (λ k below. rw (zero_and k) (ap not (first k below))) in
     let same = fitting-as accepts fits (drop 4 ws) 4 0 (λ k within. view_word ws k ∙ ap (λ (n : ℕ). fits n (word_at (drop 4 ws) k)) (sym (zero_and k))) in
     let size : length (drop 4 ws) ≡ length ws - 4 = length-drop 4 ws in
@@ -157,31 +156,31 @@ moved-read o None view is none = rw is (sym (moved-fitting view none))
 moved-read o (Some at) view is none = rw is refl
 
 -- the view of a `draw` whose words before the view fit is that of the view's words
-pub drawn_view-moved : (ws : List (List ℕ)) → 4 ≤ length ws → ((k : ℕ) → k < 4 → is_refused Draw ws k ≡ false) → drawn_view ws ≡ moved (view_of (view_words ws))
+pub drawn_view-moved : (ws : List (List ℕ)) → 4 ≤ length ws → ((k : ℕ) → k < 4 → is_refused (kind_at Draw k) Draw ws k ≡ false) → drawn_view ws ≡ moved (view_of (drop 4 ws))
 unfolding drawn_view view_of
-drawn_view-moved ws long first = moved-read (badword_in Draw ws) (misfit fits view.is_whole (drop 4 ws)) (fitting_view (drop 4 ws)) (badword_in-draw ws long first) (fitting_view-refused (drop 4 ws))
+drawn_view-moved ws long first = moved-read (badword_in Draw ws) (misfit fits (λ count. count == 22) (drop 4 ws)) (fitting_view (drop 4 ws)) (badword_in-draw ws long first) (fitting_view-refused (drop 4 ws))
 
 -- the first word of a view that does not fit stands at most at place 22
 pub view_of-few : (ws : List (List ℕ)) (at : ℕ) → view_of ws ≡ Err (Line at) → at ≤ 22
 unfolding view_of
-view_of-few ws at is = few (misfit fits view.is_whole ws) (fitting_view ws) (fitting_view-refused ws) (λ k found. misfit_few ws k found) (ap refused_at is)
+view_of-few ws at is = few (misfit fits (λ count. count == 22) ws) (fitting_view ws) (fitting_view-refused ws) (λ k found. misfit_few ws k found) (ap refused_at is)
   where
     few : (o : Option ℕ) (view : Result View TextFault) → refused_at view ≡ None → ((k : ℕ) → o ≡ Some k → k ≤ 22) → refused_at (option_map_or (λ at. Err (Line at)) o view) ≡ Some at → at ≤ 22
     few None view none bound is = absurd (cc (is, none))
     few (Some k) view none bound is = bound at is
 
 -- what was read from place 4 on
-pub view_of-read : {Y : Type 0} (words : List (String Y)) (read : Result View TextFault) → 4 ≤ length words → read ≡ view_of (map string_bytes (take (length words - 4) (drop 4 words))) → read ≡ view_of (view_words (texts words))
+pub view_of-read : {Y : Type 0} (words : List (String Y)) (read : Result View TextFault) → 4 ≤ length words → read ≡ view_of (map string_bytes (take (length words - 4) (drop 4 words))) → read ≡ view_of (drop 4 (texts words))
 view_of-read words read long is = is ∙ ap view_of (texts-from words long)
 
 pub drawn_view-read : {Y : Type 0} (words : List (String Y)) (read : Result View TextFault) → 4 ≤ length words → read ≡ view_of (map string_bytes (take (length words - 4) (drop 4 words)))
-    → ((k : ℕ) → k < 4 → is_refused Draw (texts words) k ≡ false) → moved read ≡ drawn_view (texts words)
+    → ((k : ℕ) → k < 4 → is_refused (kind_at Draw k) Draw (texts words) k ≡ false) → moved read ≡ drawn_view (texts words)
 drawn_view-read words read long is first = ap moved (view_of-read words read long is) ∙ sym (drawn_view-moved (texts words) (omega (arith, long, length-texts words)) first)
 
 -- the refused word of a `draw` is that of its view
 pub badword_in-drawn : (ws : List (List ℕ)) (asked : Result View TextFault) → asked ≡ drawn_view ws → badword_in Draw ws ≡ refused_at asked
 unfolding drawn_view
-badword_in-drawn ws asked is = refused (badword_in Draw ws) (fitting_view (view_words ws)) (fitting_view-refused (view_words ws)) ∙ ap refused_at (sym is)
+badword_in-drawn ws asked is = refused (badword_in Draw ws) (fitting_view (drop 4 ws)) (fitting_view-refused (drop 4 ws)) ∙ ap refused_at (sym is)
   where
     refused : (o : Option ℕ) (view : Result View TextFault) → refused_at view ≡ None → o ≡ refused_at (option_map_or (λ at. Err (Line at)) o view)
     refused None view none = sym none
@@ -196,9 +195,9 @@ unfolding draw_of drawn_view
 draw_of-begun ws begun = rw begun refl
 
 -- what is asked for by words that are those of a `draw`, or aren't
-pub draw_of-each : (ws : List (List ℕ)) → ((at : ℕ) → draw_of ws ≡ Err (Line at) → badword (Draw ∷ []) ws ≡ Some at) × ((asked : Result View TextFault) → draw_of ws ≡ asked → refused_at asked ≡ None → IsLine Draw ws × (asked ≡ fitting_view (view_words ws)))
+pub draw_of-each : (ws : List (List ℕ)) → ((at : ℕ) → draw_of ws ≡ Err (Line at) → badword (Draw ∷ []) ws ≡ Some at) × ((asked : Result View TextFault) → draw_of ws ≡ asked → refused_at asked ≡ None → IsLine Draw ws × (asked ≡ fitting_view (drop 4 ws)))
 unfolding draw_of
-draw_of-each ws = (refused (badword (Draw ∷ []) ws) (fitting_view (view_words ws)) (fitting_view-refused (view_words ws)), λ asked is none. line (badword (Draw ∷ []) ws) (fitting_view (view_words ws)) asked is none)
+draw_of-each ws = (refused (badword (Draw ∷ []) ws) (fitting_view (drop 4 ws)) (fitting_view-refused (drop 4 ws)), λ asked is none. line (badword (Draw ∷ []) ws) (fitting_view (drop 4 ws)) asked is none)
   where
     refused : (o : Option ℕ) (view : Result View TextFault) → refused_at view ≡ None → (at : ℕ) → option_map_or (λ at. Err (Line at)) o view ≡ Err (Line at) → o ≡ Some at
     refused None view none at is = let line = ap refused_at is in absurd (cc (line, none))

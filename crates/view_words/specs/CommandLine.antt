@@ -3,12 +3,13 @@
 --   info SURVEY OUT
 --   trial START N WORKERS OUT
 --   serve SURVEY WORKERS JOURNAL IN1 OUT1 .., with 1 to 16 pairs
-use Rattle.std.specs.Prelude.{◌≡◌, ℕ, ◌-◌, ◌%◌, ◌^◌, ◌==◌, ◌&&◌, ◌||◌, not, nat_le, ℤ, pos, negsuc, Bool, true, false, List, [], ◌∷◌, map, length, drop, String, string_bytes, codes, Option, Some, None, is_none, Result, Err, if◌then◌else◌}
+use Rattle.std.specs.Prelude.{◌≡◌, ℕ, ◌-◌, ◌%◌, ◌^◌, ◌==◌, ◌&&◌, ◌||◌, not, nat_le, Bool, true, false, List, [], ◌∷◌, map, length, drop, String, string_bytes, codes, Option, Some, None, is_none, Result, Err, if◌then◌else◌}
 use Rattle.std.specs.List.{find, list_any, range_with_len}
-use Rattle.std.specs.Option.{option_map_or}
+use Rattle.std.specs.Option.{option_map_or, option_and_then}
 use Rattle.std.specs.Str.{bytes_eq}
 use Rattle.view_base.specs.Text.{number}
 use Rattle.view_base.specs.Fitting.{word_at, misfit}
+use Rattle.view_meaning.specs.Camera.{between}
 use Rattle.view_meaning.specs.Picture.{View}
 use Rattle.view_text.specs.declared.fault.TextFault.{TextFault}
 use Rattle.view_text.specs.declared.fault.TextFault.TheVariants.{Line}
@@ -50,15 +51,9 @@ kind_at Serve k =
     if k == 0 then Command else if k == 1 then ReadName else if k == 2 then Workers else if k == 3 then WrittenName
     else if nat_le k 35 then (if k % 2 == 0 then ReadName else WrittenName) else NoWord
 
--- the natural number that a number is, where it lies within these limits
-abbrev pub within : ℕ → ℕ → Option ℤ → Option ℕ
-within least greatest None = None
-within least greatest (Some (pos n)) = if nat_le least n && nat_le n greatest then Some n else None
-within least greatest (Some (negsuc n)) = None
-
 -- the number that a word is, where it is one within these limits
 abbrev pub number_within : ℕ → ℕ → List ℕ → Option ℕ
-number_within least greatest word = within least greatest (number word)
+number_within least greatest word = option_and_then (λ z. between z least greatest) (number word)
 
 -- whether an earlier name bars the same name, by what the two are for: `-` may be read once and written once
 abbrev pub bars : WordKind → WordKind → List ℕ → Bool
@@ -78,18 +73,14 @@ is_taken row ws k = list_any (barred row ws k) (range_with_len 0 k)
 
 -- whether the word at a place is refused where this is what its row has there: a name is where it is empty, or an
 -- earlier name bars it
-abbrev pub is_refused_as : WordKind → Row → List (List ℕ) → ℕ → Bool
-is_refused_as Command row ws k = false
-is_refused_as Workers row ws k = is_none (number_within 1 64 (word_at ws k))
-is_refused_as Start row ws k = is_none (number_within 0 (2 ^ 64 - 1) (word_at ws k))
-is_refused_as Records row ws k = is_none (number_within 0 (2 ^ 23) (word_at ws k))
-is_refused_as (ViewWord place) row ws k = not (fits place (word_at ws k))
-is_refused_as NoWord row ws k = true
-is_refused_as _ row ws k = bytes_eq (word_at ws k) [] || is_taken row ws k
-
--- whether the word at a place is refused in a line that begins with this row's command
-unfoldable pub is_refused : Row → List (List ℕ) → ℕ → Bool
-is_refused row ws k = is_refused_as (kind_at row k) row ws k
+abbrev pub is_refused : WordKind → Row → List (List ℕ) → ℕ → Bool
+is_refused Command row ws k = false
+is_refused Workers row ws k = is_none (number_within 1 64 (word_at ws k))
+is_refused Start row ws k = is_none (number_within 0 (2 ^ 64 - 1) (word_at ws k))
+is_refused Records row ws k = is_none (number_within 0 (2 ^ 23) (word_at ws k))
+is_refused (ViewWord place) row ws k = not (fits place (word_at ws k))
+is_refused NoWord row ws k = true
+is_refused _ row ws k = bytes_eq (word_at ws k) [] || is_taken row ws k
 
 -- whether so many words are all that a row needs: `serve` needs a pair, and each pair whole
 abbrev pub is_whole : Row → ℕ → Bool
@@ -107,7 +98,7 @@ least_words Serve = 6
 
 -- the first refused word of a row, or the number of words where more are needed, or none
 unfoldable pub badword_in : Row → List (List ℕ) → Option ℕ
-badword_in row ws = misfit (λ k word. not (is_refused row ws k)) (is_whole row) ws
+badword_in row ws = misfit (λ k word. not (is_refused (kind_at row k) row ws k)) (is_whole row) ws
 
 -- the first refused word of a command line by the rows that are taken, or the number of words where more are needed, or
 -- none; place 0 where the words begin no row
@@ -123,15 +114,11 @@ abbrev pub workers_place : Row → ℕ
 workers_place Serve = 2
 workers_place _ = 3
 
--- the words of a view in those of a `draw`
-abbrev pub view_words : List (List ℕ) → List (List ℕ)
-view_words ws = drop 4 ws
-
--- the view that words beginning with `draw` ask for, or why there is none: first a refused word, then a camera number
--- out of its range
+-- the view that words beginning with `draw` ask for from place 4 on, or why there is none: first a refused word, then a
+-- camera number out of its range
 unfoldable pub drawn_view : List (List ℕ) → Result View TextFault
-drawn_view ws = option_map_or (λ at. Err (Line at)) (badword_in Draw ws) (fitting_view (view_words ws))
+drawn_view ws = option_map_or (λ at. Err (Line at)) (badword_in Draw ws) (fitting_view (drop 4 ws))
 
 -- the view that the words of a command line ask for as those of a `draw`, or why there is none
 unfoldable pub draw_of : List (List ℕ) → Result View TextFault
-draw_of ws = option_map_or (λ at. Err (Line at)) (badword (Draw ∷ []) ws) (fitting_view (view_words ws))
+draw_of ws = option_map_or (λ at. Err (Line at)) (badword (Draw ∷ []) ws) (fitting_view (drop 4 ws))

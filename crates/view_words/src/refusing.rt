@@ -1,7 +1,7 @@
 ghost use Rattle.std.specs.Prelude.{◌≡◌, ◌≢◌, ℕ, ◌<◌, ◌≤◌, ◌||◌, [], length, false, Some, IfSome, IfNone};
 ghost use Rattle.std.specs.Str.{bytes_eq};
 ghost use Rattle.view_base.specs.Fitting.{word_at};
-ghost use Rattle.view_words.specs.CommandLine.{texts, number_within, bars, barred, is_taken, is_refused, is_whole, badword_in, drawn_view};
+ghost use Rattle.view_words.specs.CommandLine.{texts, kind_at, number_within, bars, barred, is_taken, is_refused, is_whole, badword_in, drawn_view};
 ghost use Rattle.view_words.specs.Parts.{IsBeforeView, refused_at};
 
 use crate::fields::text_at;
@@ -84,7 +84,7 @@ fn is_refused_name(row: Row, words: &[String], at: usize) -> bool
 fn is_refused(row: Row, words: &[String], at: usize) -> bool
     requires at { at < length words.now }
     requires before_view { IsBeforeView row at }
-    ensures { result ≡ is_refused row (texts words.now) at }
+    ensures { result ≡ is_refused (kind_at row at) row (texts words.now) at }
 {
     let word = text_at(words, at);
     match kind_at(row, at) {
@@ -116,7 +116,7 @@ fn first_refused(row: Row, words: &[String], end: usize) -> Option<u32>
     requires end { end ≤ length words.now }
     requires before_view { (k : ℕ) → k < end → IsBeforeView row k }
     ensures some { IfSome result (λ at. badword_in row (texts words.now) ≡ Some at) }
-    ensures none { IfNone result ((k : ℕ) → k < end → is_refused row (texts words.now) k ≡ false) }
+    ensures none { IfNone result ((k : ℕ) → k < end → is_refused (kind_at row k) row (texts words.now) k ≡ false) }
     ensures few { IfNone result (end ≤ 36) }
 {
     for at in 0..end {
