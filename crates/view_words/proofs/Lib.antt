@@ -1,5 +1,6 @@
 pub mod Examples
 pub mod Places
+pub mod RowPlaces
 pub mod Refusals
 pub mod Lines
 pub mod Names

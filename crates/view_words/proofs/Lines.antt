@@ -1,10 +1,10 @@
 -- What is known of the words of a row that fit: how many they are, and what its numbers and view words are.
-use Rattle.std.proofs.Common.{◌≡◌, ◌≢◌, ℕ, suc, ◌+◌, ◌*◌, ◌/◌, ◌-◌, ◌<◌, ◌≤◌, List, [], ◌∷◌, Option, Some, None, Ok, Err, IsSome, ℤ, pos, negsuc, Bool, true, false, length, drop, take, map, refl, sym, ◌∙◌, ap, subst, arith, length-drop}
+use Rattle.std.proofs.Common.{◌≡◌, ◌≢◌, ℕ, ◌+◌, ◌*◌, ◌/◌, ◌-◌, ◌<◌, ◌≤◌, List, Option, Some, None, IsSome, ℤ, pos, negsuc, Bool, true, false, length, drop, take, map, refl, sym, ◌∙◌, ap, arith, length-drop}
 use Rattle.std.proofs.lemmas.Bool.Decides.{nat_tests}
-use Rattle.std.proofs.lemmas.List.{drop-map, get_or-drop, length-map}
-use Rattle.std.specs.Option.{option_map_or, option_and_then}
+use Rattle.std.proofs.lemmas.List.{drop-map, length-map}
+use Rattle.std.specs.Option.{option_and_then}
 use Rattle.std.proofs.Math.Seq.{take-length}
-use Rattle.std.specs.Prelude.{String, string_bytes, ◌==◌, ◌%◌, not, nat_le, ◌&&◌, ◌^◌, is_none, if◌then◌else◌}
+use Rattle.std.specs.Prelude.{String, string_bytes, ◌==◌, ◌%◌, nat_le, ◌&&◌, ◌^◌, is_none, if◌then◌else◌}
 use Rattle.view_base.specs.Text.{number}
 use Rattle.view_base.specs.Fitting.{word_at}
 use Rattle.view_meaning.specs.Camera.{between}

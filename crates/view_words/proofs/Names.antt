@@ -1,9 +1,8 @@
 -- The names of a line that fits: none is empty, and two that are the same are a `-` that is read and one that is written.
-use Rattle.std.proofs.Common.{◌≡◌, ◌≢◌, ℕ, ◌+◌, ◌*◌, ◌<◌, List, [], Bool, true, false, length, inl, inr, refl, sym, ◌∙◌, ap, arith}
+use Rattle.std.proofs.Common.{◌≡◌, ◌≢◌, ℕ, ◌<◌, List, [], Bool, true, false, length, inl, inr, refl, sym, ◌∙◌, ap, arith}
 use Rattle.std.proofs.lemmas.Bool.{cases_lt, cases_eq}
-use Rattle.std.proofs.lemmas.Bool.Decides.{nat_tests}
 use Rattle.std.proofs.lemmas.Slice.Eq.{bytes_eq-Decides}
-use Rattle.std.specs.Prelude.{not, codes, ◌&&◌, ◌||◌}
+use Rattle.std.specs.Prelude.{not, codes, ◌&&◌}
 use Rattle.std.specs.Str.{bytes_eq}
 use Rattle.view_base.specs.Fitting.{word_at}
 use Rattle.view_words.specs.declared.row.Row.{Row}
@@ -11,7 +10,7 @@ use Rattle.view_words.specs.declared.row.Row.TheVariants.{Draw, Info, Trial, Ser
 use Rattle.view_words.specs.declared.kind.WordKind.{WordKind}
 use Rattle.view_words.specs.declared.kind.WordKind.TheVariants.{ReadName, WrittenName}
 use Rattle.view_words.specs.CommandLine.{kind_at, bars, barred, is_taken, IsLine}
-use Rattle.view_words.proofs.Places.{any-range_none, any-range_some, none_passes}
+use Rattle.view_words.proofs.Places.{any-range_none, any-range_some, none_passes, neither}
 use Rattle.view_words.proofs.Lines.{line_at}
 
 -- an earlier name that bars the one at a place
@@ -27,10 +26,6 @@ is_taken-none row ws k none = any-range_none (barred row ws k) 0 k (λ j _ below
 unbarred : (row : Row) (ws : List (List ℕ)) (k j : ℕ) → is_taken row ws k ≡ false → j < k → barred row ws k j ≡ false
 unfolding is_taken
 unbarred row ws k j none below = none_passes (barred row ws k) k j none below
-
-neither : (a b : Bool) → (a || b) ≡ false → (a ≡ false) × (b ≡ false)
-neither true b is = absurd (cc is)
-neither false b is = (refl, is)
 
 read_stands : (row : Row) (ws : List (List ℕ)) (k : ℕ) → IsLine row ws → k < length ws → kind_at row k ≡ ReadName → (bytes_eq (word_at ws k) [] ≡ false) × (is_taken row ws k ≡ false)
 read_stands row ws k line below read = neither (bytes_eq (word_at ws k) []) (is_taken row ws k) (line_at row ws k ReadName line below read)
@@ -119,12 +114,3 @@ kind_at-trial = refl
 pub kind_at-serve : (kind_at Serve 1 ≡ ReadName) × (kind_at Serve 3 ≡ WrittenName)
 unfolding kind_at
 kind_at-serve = (refl, refl)
-
--- the names of pair k of a `serve`
-pub kind_at-in : (k : ℕ) → k < 16 → kind_at Serve (4 + 2 * k) ≡ ReadName
-unfolding kind_at
-kind_at-in k few = grind (arith, nat_tests)
-
-pub kind_at-out : (k : ℕ) → k < 16 → kind_at Serve (5 + 2 * k) ≡ WrittenName
-unfolding kind_at
-kind_at-out k few = grind (arith, nat_tests)

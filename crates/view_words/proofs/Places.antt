@@ -1,8 +1,9 @@
 -- Tests of the places of a range: the first that passes, and whether one does.
-use Rattle.std.proofs.Common.{◌≡◌, ℕ, zero, suc, ◌+◌, ◌<◌, ◌≤◌, List, [], ◌∷◌, Option, Some, None, Bool, true, false, cond, inl, inr, refl, sym, ◌∙◌, ap, arith}
+use Rattle.std.proofs.Common.{◌≡◌, ℕ, zero, suc, ◌+◌, ◌<◌, ◌≤◌, List, [], ◌∷◌, Option, Some, Bool, true, false, cond, inl, inr, refl, sym, ◌∙◌, ap, arith}
 use Rattle.std.proofs.lemmas.Bool.{cases_eq}
 use Rattle.std.proofs.Math.Bool.{or-true}
 use Rattle.std.specs.List.{find, list_any, range_with_len}
+use Rattle.std.specs.Prelude.{◌||◌}
 
 found_first : {X : Type 0} (test : X → Bool) (y x : X) (o : Option X) (b : Bool) → test y ≡ b → cond b (Some y) o ≡ Some x → (o ≡ Some x → test x ≡ true) → test x ≡ true
 found_first test y x o true is found later = let e : y ≡ x = cc found in ap test (sym e) ∙ is
@@ -27,6 +28,11 @@ any-range_some test a (suc n) at from below here =
       | inl same ↦ let passes : test a ≡ true = ap test same ∙ here in rw passes refl
       | inr other ↦ rw (any-range_some test (a + 1) n at (omega arith) (omega arith) here) (or-true (test a))
     ]
+
+-- of two tests of which none passes each fails
+pub neither : (a b : Bool) → (a || b) ≡ false → (a ≡ false) × (b ≡ false)
+neither true b is = absurd (cc is)
+neither false b is = (refl, is)
 
 -- where none passes, each fails
 pub none_passes : (test : ℕ → Bool) (n k : ℕ) → list_any test (range_with_len 0 n) ≡ false → k < n → test k ≡ false

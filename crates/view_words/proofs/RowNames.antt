@@ -5,7 +5,8 @@ use Rattle.view_base.specs.Fitting.{word_at}
 use Rattle.view_words.specs.declared.row.Row.TheVariants.{Draw, Info, Trial, Serve}
 use Rattle.view_words.specs.CommandLine.{IsLine}
 use Rattle.view_words.proofs.Lines.{length-draw, length-info, length-trial, length-serve}
-use Rattle.view_words.proofs.Names.{read_named, written_named, read_once, written_once, read_and_written, kind_at-draw, kind_at-info, kind_at-trial, kind_at-serve, kind_at-in, kind_at-out}
+use Rattle.view_words.proofs.RowPlaces.{kind_at-in, kind_at-out}
+use Rattle.view_words.proofs.Names.{read_named, written_named, read_once, written_once, read_and_written, kind_at-draw, kind_at-info, kind_at-trial, kind_at-serve}
 
 -- the survey and the picture of a `draw` are named, and differ unless both are `-`
 pub names-draw : (ws : List (List ℕ)) → IsLine Draw ws → (word_at ws 1 ≢ []) × (word_at ws 2 ≢ []) × (word_at ws 1 ≡ word_at ws 2 → word_at ws 1 ≡ codes "-")

@@ -1,10 +1,11 @@
 -- The words of a view as a part of those of a `draw`.
-use Rattle.std.proofs.Common.{◌≡◌, ℕ, ℤ, zero, suc, ◌+◌, ◌-◌, ◌<◌, ◌≤◌, List, [], ◌∷◌, Option, Some, None, Ok, Err, OnOk, Bool, true, false, cond, eqb, length, drop, take, map, inl, inr, refl, sym, ◌∙◌, ap, subst, arith, length-drop}
+use Rattle.std.proofs.Common.{◌≡◌, ℕ, zero, suc, ◌+◌, ◌-◌, ◌<◌, ◌≤◌, List, [], ◌∷◌, Option, Some, None, Ok, Err, OnOk, Bool, true, false, cond, eqb, length, drop, take, map, inl, inr, refl, sym, ◌∙◌, ap, arith, length-drop}
 use Rattle.std.proofs.lemmas.Bool.{cases_lt, ne_eqb}
 use Rattle.std.proofs.lemmas.Bool.Decides.{nat_tests}
-use Rattle.std.proofs.lemmas.List.{get_or-drop, length-map}
+use Rattle.std.proofs.lemmas.List.{get_or-drop, get_or-take}
+use Rattle.std.specs.List.{list_any}
 use Rattle.std.specs.Option.{option_map_or, option_map}
-use Rattle.std.specs.Prelude.{not, ◌==◌, ◌&&◌, nat_le, unwrap_or, Result, String, string_bytes}
+use Rattle.std.specs.Prelude.{not, ◌==◌, ◌&&◌, nat_le, slice_index_or, unwrap_or, Result, String, string_bytes}
 use Rattle.view_base.specs.declared.colour.Colouring.TheVariants.{Class}
 use Rattle.view_base.specs.Fitting.{word_at, fitting, misfit}
 use Rattle.view_meaning.specs.Picture.{View}
@@ -16,9 +17,12 @@ use Rattle.int_camera.specs.declared.numbers.Kind.TheVariants.{Ortho}
 use Rattle.int_camera.specs.Limits.{first_outside, lens_of, projection_of}
 use Rattle.view_words.specs.declared.row.Row.{Row}
 use Rattle.view_words.specs.declared.row.Row.TheVariants.{Draw, Info, Trial, Serve}
-use Rattle.view_words.specs.declared.kind.WordKind.TheVariants.{ViewWord}
-use Rattle.view_words.specs.CommandLine.{kind_at, is_refused, badword_in, badword, IsLine, texts, drawn_view, draw_of}
+use Rattle.view_words.specs.declared.kind.WordKind.{WordKind}
+use Rattle.view_words.specs.declared.kind.WordKind.TheVariants.{ViewWord, NoWord}
+use Rattle.view_words.specs.CommandLine.{kinds, kind_at, is_refused, badword_in, badword, IsLine, texts, drawn_view, draw_of}
 use Rattle.view_words.specs.Parts.{IsBeforeView, refused_at}
+use Rattle.view_words.proofs.Places.{neither}
+use Rattle.view_words.proofs.RowPlaces.{kind_at-past, kind_at-view}
 use Rattle.view_words.proofs.Refusals.{is_refused-kind}
 use Rattle.view_words.proofs.Lines.{length-texts, texts-from}
 
@@ -70,15 +74,8 @@ unfolding misfit
 misfit_few ws at is =
     found_few (eqb (fitting fits 0 ws) (length ws) && length ws == 22) (fitting fits 0 ws) at 22 (fitting-few fits ws 0 22 fits-last) is
 
-view_place : (k : ℕ) → k < 22 → kind_at Draw (4 + k) ≡ ViewWord k
-unfolding kind_at
-view_place k within = grind (arith, nat_tests)
-
 past_place : (ws : List (List ℕ)) (k : ℕ) → 22 ≤ k → is_refused (kind_at Draw (4 + k)) Draw ws (4 + k) ≡ true
-unfolding kind_at
-past_place ws k past =
-    let far : nat_le (4 + k) 25 ≡ false = grind (arith, nat_tests) in
-    rw (ne_eqb (4 + k) 0 (omega arith), ne_eqb (4 + k) 1 (omega arith), ne_eqb (4 + k) 2 (omega arith), ne_eqb (4 + k) 3 (omega arith), far) refl
+past_place ws k past = is_refused-kind Draw ws (4 + k) NoWord (kind_at-past Draw (4 + k) (omega (arith, past)))
 
 past_fits : (k : ℕ) (word : List ℕ) → 22 ≤ k → fits k word ≡ false
 unfolding fits fits_filter
@@ -95,7 +92,7 @@ view_word : (ws : List (List ℕ)) (k : ℕ) → not (is_refused (kind_at Draw (
 view_word ws k =
     elim (cases_lt k 22) [
       | inl within ↦
-          ap not (is_refused-kind Draw ws (4 + k) (ViewWord k) (view_place k within)) ∙ not_not (fits k (word_at ws (4 + k))) ∙ ap (fits k) (sym (get_or-drop 4 ws k []))
+          ap not (is_refused-kind Draw ws (4 + k) (ViewWord k) (kind_at-view k within)) ∙ not_not (fits k (word_at ws (4 + k))) ∙ ap (fits k) (sym (get_or-drop 4 ws k []))
       | inr past ↦ ap not (past_place ws k past) ∙ sym (past_fits k (word_at (drop 4 ws) k) past)
     ]
 
@@ -119,13 +116,25 @@ badword_in-draw ws long first =
         let tests : (4 + n == size && size == 26) ≡ (n == size - 4 && size - 4 == 22) = grind (arith, nat_tests) in
         ap (λ (b : Bool). cond b None (Some (4 + n))) tests ∙ mapped (n == size - 4 && size - 4 == 22) n
 
+abbrev is_view : WordKind → Bool
+is_view (ViewWord place) = true
+is_view _ = false
+
+-- kinds of which none is that of a view word
+none_view : (xs : List WordKind) (k place : ℕ) → list_any is_view xs ≡ false → slice_index_or xs k NoWord ≡ ViewWord place → ⊥
+none_view [] k place none is = absurd (cc is)
+none_view (x ∷ xs) zero place none is = absurd (cc ((neither (is_view x) (list_any is_view xs) none).0, ap is_view is))
+none_view (x ∷ xs) (suc k) place none is = none_view xs k place (neither (is_view x) (list_any is_view xs) none).1 is
+
 -- no view word stands before the view
 pub view_word_before : (row : Row) (k place : ℕ) → IsBeforeView row k → kind_at row k ≡ ViewWord place → ⊥
 unfolding kind_at
-view_word_before Draw k place before is = let early : k < 4 = before refl in absurd (grind (arith, nat_tests))
-view_word_before Info k place before is = absurd (grind (arith, nat_tests))
-view_word_before Trial k place before is = absurd (grind (arith, nat_tests))
-view_word_before Serve k place before is = absurd (grind (arith, nat_tests))
+view_word_before Draw k place before is =
+    let here : slice_index_or (kinds Draw) k NoWord ≡ ViewWord place = is in
+    none_view (take 4 (kinds Draw)) k place refl (get_or-take 4 (kinds Draw) k NoWord (before refl) ∙ here)
+view_word_before Info k place before is = none_view (kinds Info) k place refl is
+view_word_before Trial k place before is = none_view (kinds Trial) k place refl is
+view_word_before Serve k place before is = none_view (kinds Serve) k place refl is
 
 pub drawn_view-refused : (ws : List (List ℕ)) (at : ℕ) → badword_in Draw ws ≡ Some at → drawn_view ws ≡ Err (Line at)
 unfolding drawn_view

@@ -3,8 +3,8 @@
 --   info SURVEY OUT
 --   trial START N WORKERS OUT
 --   serve SURVEY WORKERS JOURNAL IN1 OUT1 .., with 1 to 16 pairs
-use Rattle.std.specs.Prelude.{◌≡◌, ℕ, ◌-◌, ◌%◌, ◌^◌, ◌==◌, ◌&&◌, ◌||◌, not, nat_le, Bool, true, false, List, [], ◌∷◌, map, length, drop, String, string_bytes, codes, Option, Some, None, is_none, Result, Err, if◌then◌else◌}
-use Rattle.std.specs.List.{find, list_any, range_with_len}
+use Rattle.std.specs.Prelude.{◌≡◌, ℕ, ◌-◌, ◌%◌, ◌^◌, ◌==◌, ◌&&◌, ◌||◌, not, nat_le, Bool, true, false, List, [], ◌∷◌, map, length, slice_index_or, drop, String, string_bytes, codes, Option, Some, None, is_none, Result, Err}
+use Rattle.std.specs.List.{find, flat_map, list_any, range_with_len}
 use Rattle.std.specs.Option.{option_map_or, option_and_then}
 use Rattle.std.specs.Str.{bytes_eq}
 use Rattle.view_base.specs.Text.{number}
@@ -38,18 +38,16 @@ all_rows = Draw ∷ Info ∷ Trial ∷ Serve ∷ []
 abbrev pub row_in : List Row → List (List ℕ) → Option Row
 row_in rows ws = find (λ row. bytes_eq (word_at ws 0) (command row)) rows
 
+-- what a row has at its places in order, a `serve` with all of its 16 pairs
+abbrev pub kinds : Row → List WordKind
+kinds Draw = Command ∷ ReadName ∷ WrittenName ∷ Workers ∷ map ViewWord (range_with_len 0 22)
+kinds Info = Command ∷ ReadName ∷ WrittenName ∷ []
+kinds Trial = Command ∷ Start ∷ Records ∷ Workers ∷ WrittenName ∷ []
+kinds Serve = Command ∷ ReadName ∷ Workers ∷ WrittenName ∷ flat_map (λ k. ReadName ∷ WrittenName ∷ []) (range_with_len 0 16)
+
 -- what a row has at a place, from 0
 unfoldable pub kind_at : Row → ℕ → WordKind
-kind_at Draw k =
-    if k == 0 then Command else if k == 1 then ReadName else if k == 2 then WrittenName else if k == 3 then Workers
-    else if nat_le k 25 then ViewWord (k - 4) else NoWord
-kind_at Info k = if k == 0 then Command else if k == 1 then ReadName else if k == 2 then WrittenName else NoWord
-kind_at Trial k =
-    if k == 0 then Command else if k == 1 then Start else if k == 2 then Records else if k == 3 then Workers
-    else if k == 4 then WrittenName else NoWord
-kind_at Serve k =
-    if k == 0 then Command else if k == 1 then ReadName else if k == 2 then Workers else if k == 3 then WrittenName
-    else if nat_le k 35 then (if k % 2 == 0 then ReadName else WrittenName) else NoWord
+kind_at row k = slice_index_or (kinds row) k NoWord
 
 -- the number that a word is, where it is one within these limits
 abbrev pub number_within : ℕ → ℕ → List ℕ → Option ℕ
@@ -84,10 +82,8 @@ is_refused _ row ws k = bytes_eq (word_at ws k) [] || is_taken row ws k
 
 -- whether so many words are all that a row needs: `serve` needs a pair, and each pair whole
 abbrev pub is_whole : Row → ℕ → Bool
-is_whole Draw n = n == 26
-is_whole Info n = n == 3
-is_whole Trial n = n == 5
 is_whole Serve n = nat_le 6 n && n % 2 == 0
+is_whole row n = n == length (kinds row)
 
 -- the fewest words that a row has
 abbrev pub least_words : Row → ℕ

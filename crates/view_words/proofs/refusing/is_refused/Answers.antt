@@ -1,5 +1,5 @@
 use Rattle.std.proofs.Common.{◌∙◌, sym, rules}
-use Rattle.view_words.specs.declared.kind.WordKind.TheVariants.{Command, ReadName, WrittenName, Workers, Start, Records, ViewWord, NoWord}
+use Rattle.view_words.specs.declared.kind.WordKind.TheVariants.{Command, ReadName, WrittenName, Workers, Start, Records, NoWord}
 use Rattle.view_words.specs.CommandLine.{texts}
 use Rattle.view_words.proofs.Refusals.{is_refused-kind}
 use Rattle.view_words.proofs.ViewPart.{view_word_before}

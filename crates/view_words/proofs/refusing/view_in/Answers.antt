@@ -1,8 +1,7 @@
-use Rattle.std.proofs.Common.{◌≡◌, ◌≤◌, ◌<◌, ◌∙◌, ℕ, length, false, Ok, Err, Result, sym, ap, arith}
+use Rattle.std.proofs.Common.{◌<◌, ◌∙◌, ℕ, length, Err, sym, ap, arith}
 use Rattle.std.proofs.lemmas.Bool.{ne_eqb}
-use Rattle.view_meaning.specs.Picture.{View}
 use Rattle.view_text.specs.declared.fault.TextFault.{TextFault}
-use Rattle.view_text.specs.declared.fault.TextFault.TheVariants.{Line, Limit}
+use Rattle.view_text.specs.declared.fault.TextFault.TheVariants.{Line}
 use Rattle.view_words.specs.declared.row.Row.TheVariants.{Draw}
 use Rattle.view_words.specs.CommandLine.{texts}
 use Rattle.view_words.proofs.Lines.{length-texts}
