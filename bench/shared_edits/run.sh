@@ -206,14 +206,14 @@ fn time_boxes<R: Wait + Clock + Print>(rt: &R, shared: &Shared, pass: &mut Pass,
     time_each(rt, shared, pass, large, &low, &high)
 }
 
-fn share(alloc: Global, step: u32) -> Option<(Shared, Pass)>
+fn share<R: Threads + Sync>(rt: &R, alloc: Global, step: u32) -> Option<(Shared, Pass)>
     ensures gate { IfSome result (λ r. r.1.gate ≡ r.0.name) }
     ensures outside { IfSome result (λ r. r.1.turn ≡ None) }
     ensures root { IfSome result (λ r. r.1.root ≡ true) }
     ensures given { IfSome result (λ r. r.1.given ≡ 0) }
 {
     let survey = survey(alloc, step)?;
-    let blocks = Arc::new(alloc, build(alloc, &survey).ok()?).ok()?;
+    let blocks = Arc::new(alloc, build(alloc, rt, 4, &survey).ok()?).ok()?;
     Shared::over(alloc, Arc::new(alloc, survey).ok()?, blocks).ok()
 }
 
@@ -235,11 +235,11 @@ fn time_scan<R: Threads + Wait + Clock + Print + Sync>(rt: &R, shared: &Shared, 
 }
 
 fn main(rt: HostRuntime) -> io::Result<()> {
-    let Some((shared, mut root)) = share(rt.alloc(), 1) else {
+    let Some((shared, mut root)) = share(&rt, rt.alloc(), 1) else {
         return println!(rt; "no store");
     };
     time_scan(&rt, &shared, &mut root)?;
-    let Some((shared, mut root)) = share(rt.alloc(), 15485863) else {
+    let Some((shared, mut root)) = share(&rt, rt.alloc(), 15485863) else {
         return println!(rt; "no store");
     };
     time_boxes(&rt, &shared, &mut root, "1000_scattered", "half_scattered")

@@ -7,4 +7,5 @@ mod records;
 mod tests;
 mod writing;
 
+pub use records::run_from;
 pub use writing::write_survey;

@@ -10,7 +10,7 @@ use las_points::class_place;
 use las_survey::{Header, Survey};
 
 /// The classes of records from record `first` on that stand on one page, `most` at the most.
-pub(crate) fn run_from(classes: &Classes, first: u32, most: usize) -> &[u8]
+pub fn run_from(classes: &Classes, first: u32, most: usize) -> &[u8]
     requires inside { first < length classes.now }
     requires some { 1 ≤ most }
     ensures run { result.now ≡ take (length result.now) (drop first classes.now) }

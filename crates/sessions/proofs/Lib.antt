@@ -13,3 +13,4 @@ mod Parts
 mod Lengths
 mod Shown
 mod Naming
+mod Counted

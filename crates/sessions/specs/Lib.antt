@@ -5,3 +5,4 @@ pub mod Talk
 pub mod Hearing
 pub mod Listening
 pub mod Shown
+pub mod Passing

@@ -4,10 +4,12 @@ ghost use Rattle.std.specs.Thread.{IsSync};
 ghost use Rattle.view_meaning.specs.Classes.{passes, passing};
 ghost use Rattle.view_meaning.specs.Survey.{record_count};
 
-use crate::filtering::passes;
+use crate::filter_table::FilterTable;
+use crate::filtering::count_run;
 use class_bits::Filter;
 use class_pages::Classes;
 use las_survey::Survey;
+use las_write::run_from;
 use std::thread::{Threads, join_mut};
 
 /// From how many records on a count is shared among workers.
@@ -27,7 +29,8 @@ pub fn count_passing<R: Threads + Sync>(
     requires records { length classes.now ≡ record_count survey.now }
     ensures { result ≡ passing survey.now classes.now filter.now }
 {
-    count_side_by_side(rt, workers, survey, classes, filter, 0, survey.records())
+    let table = FilterTable::of(filter);
+    count_side_by_side(rt, workers, survey, classes, &table, 0, survey.records())
 }
 
 /// How many of so many records from a number on pass, counted by workers side by side, each with
@@ -37,7 +40,7 @@ fn count_side_by_side<R: Threads + Sync>(
     workers: u32,
     survey: &Survey,
     classes: &Classes,
-    filter: &Filter,
+    filter: &FilterTable,
     first: u32,
     count: u32,
 ) -> u32
@@ -86,8 +89,14 @@ fn front_share(count: u32, workers: u32) -> u32
     count / workers * (workers / 2)
 }
 
-/// How many of so many records from a number on pass.
-fn count_each(survey: &Survey, classes: &Classes, filter: &Filter, first: u32, count: u32) -> u32
+/// How many of so many records from a number on pass, page by page.
+fn count_each(
+    survey: &Survey,
+    classes: &Classes,
+    filter: &FilterTable,
+    first: u32,
+    count: u32,
+) -> u32
     requires records { length classes.now ≡ record_count survey.now }
     requires within { first + count ≤ record_count survey.now }
     requires small { first + count < 2 ^ 32 }
@@ -95,8 +104,12 @@ fn count_each(survey: &Survey, classes: &Classes, filter: &Filter, first: u32, c
     ensures few { result ≤ count }
 {
     let mut passing = 0;
-    for number in first..first + count {
-        passing += u32::from(passes(survey, classes, filter, number));
+    let mut done = 0;
+    while done < count {
+        let number = first + done;
+        let run = run_from(classes, number, (count - done) as usize);
+        passing += count_run(survey, filter, run, number);
+        done += run.len() as u32;
     }
     passing
 }

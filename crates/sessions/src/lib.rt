@@ -3,9 +3,12 @@
 #![tactic(auto)]
 
 mod answering;
+#[cfg(test)]
+mod count_tests;
 mod counting;
 mod drawing;
 mod end;
+mod filter_table;
 mod filtering;
 mod heads;
 mod hearing;

@@ -1,23 +1,24 @@
 ghost use Rattle.std.specs.Prelude.{◌≡◌, ◌≤◌, [], length, true, IfOk};
+ghost use Rattle.grid_blocks.specs.Blocks.{IsBlocks};
 ghost use Rattle.view_base.specs.Fitting.{word_at};
 ghost use Rattle.view_commands.specs.Calls.{AnswersDraw};
 ghost use Rattle.view_commands.specs.Texts.{MakesText, colour_refusal};
 ghost use Rattle.view_meaning.specs.Classes.{classes};
 ghost use Rattle.view_meaning.specs.Picture.{can_colour, picture};
-ghost use Rattle.view_meaning.specs.Survey.{format_of};
+ghost use Rattle.view_meaning.specs.Survey.{format_of, record_count};
 ghost use Rattle.view_words.specs.CommandLine.{IsLine, texts};
 
 use crate::places::OUT;
 use crate::status::Status;
 use crate::texts::{read_survey, write_text};
-use class_pages::base;
-use grid_blocks::build_by_number;
+use class_pages::{Classes, base};
+use grid_blocks::{Blocks, build_by_number};
 use las_points::can_colour;
 use las_survey::Survey;
 use sessions::{Scene, picture};
 use std::alloc::Global;
 use std::sync::Arc;
-use std::thread::Threads;
+use std::thread::{Threads, join};
 use view_base::{Bytes, OutOfMemory};
 use view_ends::{Beside, Desk};
 use view_text::{TextFault, ViewSpec};
@@ -109,14 +110,41 @@ fn picture_of<R: Threads + Sync, B: Beside>(
     requires can_colour { can_colour (format_of survey) view.now.colouring ≡ true }
     ensures { IfOk result (λ bytes. bytes.items ≡ picture survey (classes survey []) view.now) }
 {
-    let blocks = Arc::new(alloc, build_by_number(alloc, &survey)?)?;
+    let (blocks, classes) = blocks_and_classes(alloc, rt, &survey, workers)?;
     let scene = Scene {
         survey: Arc::new(alloc, survey)?,
-        blocks,
+        blocks: Arc::new(alloc, blocks)?,
         workers,
     };
-    let classes = base(alloc, &scene.survey)?;
     let mut bytes = Bytes::new(alloc);
     picture(alloc, rt, &scene, &classes, view, beside, &mut bytes)?;
     Ok(bytes)
+}
+
+/// The blocks of a survey by number, and the classes in its file. Both are a pass over the records,
+/// and are made side by side where there is more than one worker.
+fn blocks_and_classes<R: Threads + Sync>(
+    alloc: Global,
+    rt: &R,
+    survey: &Survey,
+    workers: u32,
+) -> Result<(Blocks, Classes), OutOfMemory>
+    ensures blocks { IfOk result (λ made. IsBlocks survey.now made.0) }
+    ensures classes { IfOk result (λ made. made.1 ≡ classes survey.now []) }
+    ensures size { IfOk result (λ made. length made.1 ≡ record_count survey.now) }
+{
+    if workers < 2 {
+        let blocks = build_by_number(alloc, survey)?;
+        return Ok((blocks, base(alloc, survey)?));
+    }
+    let (blocks, classes) = join(
+        rt,
+        || -> Result<Blocks, OutOfMemory>
+            ensures { IfOk result (IsBlocks survey.entry.now) }
+        { build_by_number(alloc, survey) },
+        || -> Result<Classes, OutOfMemory>
+            ensures { IfOk result (λ made. (made ≡ classes survey.entry.now []) × (length made ≡ record_count survey.entry.now)) }
+        { base(alloc, survey) },
+    );
+    Ok((blocks?, classes?))
 }
