@@ -2,7 +2,7 @@
 use Rattle.std.proofs.Common.{◌≡◌, ◌⊎◌, inl, inr, ◌↔◌, ◌∙◌, ℕ, zero, suc, ◌^◌, Bool, true, false, cond, ℤ, pos, negsuc, neg_ℤ, ◌+ℤ◌, ◌-ℤ◌, ◌*ℤ◌, ◌<ℤ◌, ◌≤ℤ◌, List, refl, ap, subst, sym, arith}
 use Rattle.std.specs.Prelude.{IsTrue}
 use Rattle.std.specs.List.{All, Any, Contains}
-use Rattle.std.specs.Int.{int_max}
+use Rattle.std.specs.Int.{int_max, int_min}
 use Rattle.std.proofs.lemmas.Int.{ints, clamps, by_lt_z}
 use Rattle.std.proofs.lemmas.List.Elements.{All-contains}
 use lib.Signed.{le_z, lt_z}
@@ -62,13 +62,6 @@ far_end part low high far is = elim (greater_cases (part *ℤ low) (part *ℤ hi
   | inr here ↦ (true, here)
 ]
 
--- the greater of two numbers is in their range
-pub greater_within : (a b far : ℤ) → far ≡ int_max a b → (neg_ℤ (pos (2 ^ 67)) ≤ℤ a) × (a ≤ℤ pos (2 ^ 67)) → (neg_ℤ (pos (2 ^ 67)) ≤ℤ b) × (b ≤ℤ pos (2 ^ 67)) → (neg_ℤ (pos (2 ^ 67)) ≤ℤ far) × (far ≤ℤ pos (2 ^ 67))
-greater_within a b far is of_a of_b = elim (greater_cases a b far is) [
-  | inl here ↦ (omega (arith, ints, of_a, here), omega (arith, ints, of_a, here))
-  | inr here ↦ (omega (arith, ints, of_b, here), omega (arith, ints, of_b, here))
-]
-
 -- a half-space that begins past the farthest corner has none of them, and no other half-space is so
 pub excludes-farthest : (h : HalfSpace) (area : Box3) (x y z : ℤ)
     → x ≡ int_max (h.nx *ℤ area.min.x) (h.nx *ℤ area.max.x) → y ≡ int_max (h.ny *ℤ area.min.y) (h.ny *ℤ area.max.y) → z ≡ int_max (h.nz *ℤ area.min.z) (h.nz *ℤ area.max.z)
@@ -98,6 +91,43 @@ product-rises n a b le = by_gap (b -ℤ a) refl where
       omega (arith, ints, parts)
   by_gap (negsuc k) is = absurd (omega (arith, ints))
 
+-- the greater of two numbers in order
+greater_second : (a b : ℤ) → a ≤ℤ b → b ≡ int_max a b
+greater_second a b le = grind (arith, ints)
+
+greater_first : (a b : ℤ) → b ≤ℤ a → a ≡ int_max a b
+greater_first a b le = grind (arith, ints)
+
+lesser_first : (a b : ℤ) → a ≤ℤ b → a ≡ int_min a b
+lesser_first a b le = grind (arith, ints)
+
+lesser_second : (a b : ℤ) → b ≤ℤ a → b ≡ int_min a b
+lesser_second a b le = grind (arith, ints)
+
+-- a product falls with its second number where the first is negative
+product-falls : (n : ℕ) (a b : ℤ) → a ≤ℤ b → (negsuc n *ℤ b) ≤ℤ (negsuc n *ℤ a)
+product-falls n a b le =
+    let rises = product-rises (suc n) a b le in
+    omega (arith, ints, rises, neg-mul (pos (suc n)) a, neg-mul (pos (suc n)) b)
+
+-- the greater of two numbers gives the greater product where the part isn't negative
+pub product-greater : (part a b : ℤ) → pos 0 ≤ℤ part → (part *ℤ int_max a b) ≡ int_max (part *ℤ a) (part *ℤ b)
+product-greater (pos n) a b up = by_lt_z a b
+    (λ (lt : a <ℤ b). let le : a ≤ℤ b = omega (arith, ints, lt) in
+    ap (λ (z : ℤ). pos n *ℤ z) (sym (greater_second a b le)) ∙ greater_second (pos n *ℤ a) (pos n *ℤ b) (product-rises n a b le))
+    (λ (le : b ≤ℤ a).
+    ap (λ (z : ℤ). pos n *ℤ z) (sym (greater_first a b le)) ∙ greater_first (pos n *ℤ a) (pos n *ℤ b) (product-rises n b a le))
+product-greater (negsuc n) a b up = absurd (omega (arith, ints, up))
+
+-- and the lesser where it is
+pub product-lesser : (part a b : ℤ) → ¬ (pos 0 ≤ℤ part) → (part *ℤ int_min a b) ≡ int_max (part *ℤ a) (part *ℤ b)
+product-lesser (pos n) a b down = absurd (down (omega (arith, ints)))
+product-lesser (negsuc n) a b down = by_lt_z a b
+    (λ (lt : a <ℤ b). let le : a ≤ℤ b = omega (arith, ints, lt) in
+    ap (λ (z : ℤ). negsuc n *ℤ z) (sym (lesser_first a b le)) ∙ greater_first (negsuc n *ℤ a) (negsuc n *ℤ b) (product-falls n a b le))
+    (λ (le : b ≤ℤ a).
+    ap (λ (z : ℤ). negsuc n *ℤ z) (sym (lesser_second a b le)) ∙ greater_second (negsuc n *ℤ a) (negsuc n *ℤ b) (product-falls n b a le))
+
 -- no number of a range is farther than one of its ends
 pub end-past : (part low high at : ℤ) → low ≤ℤ at → at ≤ℤ high → (i : Bool) × ((part *ℤ at) ≤ℤ (part *ℤ end_of i low high))
 end-past (pos n) low high at above below = (true, product-rises n at high below)
@@ -107,6 +137,13 @@ end-past (negsuc n) low high at above below =
 
 in_order : (a b : ℤ) → le_z a b ≡ true → a ≤ℤ b
 in_order a b is = grind (arith, ints)
+
+order_told : (a b : ℤ) → a ≤ℤ b → le_z a b ≡ true
+order_told a b le = grind (arith, ints)
+
+-- a test of the order of two numbers
+pub le_z_tells : (a b : ℤ) → IsTrue (le_z a b) ↔ a ≤ℤ b
+le_z_tells a b = (in_order a b, order_told a b)
 
 -- a half-space without corners of a box has no point of it
 pub excludes-point : (h : HalfSpace) (area : Box3) (p : Point) → Excludes h area → IsTrue (in_box area p) → ¬ Meets h p
@@ -124,14 +161,26 @@ true_past : (a b : ℤ) → lt_z a b ≡ true → a <ℤ b
 true_past a b is = grind (arith, ints)
 
 -- the same of a sum that is told by a test
-pub excludes-told : (h : HalfSpace) (area : Box3) (x y z sum begins : ℤ)
+pub excludes-told : (h k : HalfSpace) (area : Box3) (x y z sum begins : ℤ) → h ≡ k
     → x ≡ int_max (h.nx *ℤ area.min.x) (h.nx *ℤ area.max.x) → y ≡ int_max (h.ny *ℤ area.min.y) (h.ny *ℤ area.max.y) → z ≡ int_max (h.nz *ℤ area.min.z) (h.nz *ℤ area.max.z)
-    → sum ≡ x +ℤ y +ℤ z → begins ≡ h.c → IsTrue (lt_z sum begins) ↔ Excludes h area
-excludes-told h area x y z sum begins at_x at_y at_z of_sum of_c =
-    let told = excludes-farthest h area x y z at_x at_y at_z in (
+    → sum ≡ x +ℤ y +ℤ z → begins ≡ h.c → IsTrue (lt_z sum begins) ↔ Excludes k area
+excludes-told h k area x y z sum begins same at_x at_y at_z of_sum of_c =
+    let told = excludes-farthest h area x y z at_x at_y at_z in
+    subst (λ (g : HalfSpace). IsTrue (lt_z sum begins) ↔ Excludes g area) same (
       (λ (past : IsTrue (lt_z sum begins)). told.0 (subst (λ (c : ℤ). (x +ℤ y +ℤ z) <ℤ c) of_c (subst (λ (s : ℤ). s <ℤ begins) of_sum (true_past sum begins past)))),
       (λ (none : Excludes h area). past_true sum begins (subst (λ (c : ℤ). sum <ℤ c) (sym of_c) (subst (λ (s : ℤ). s <ℤ h.c) (sym of_sum) (told.1 none)))),
     )
+
+-- what a test that failed says
+pub untrue : (told : Bool) (E : Type 0) → (E → IsTrue told) → told ≡ false → ¬ E
+untrue told E says is = λ (e : E). let yes : told ≡ true = says e in absurd (cc (yes, is))
+
+-- a camera's half-spaces say which boxes are outside
+pub tells_outside : (lens : Lens) (hs : List HalfSpace) → hs ≡ half_spaces lens → (area : Box3) → Any (λ h. Excludes h area) hs ↔ IsOutside lens area
+tells_outside lens hs are area = (
+  (λ (some : Any (λ h. Excludes h area) hs). subst (λ (gs : List HalfSpace). Any (λ h. Excludes h area) gs) are some),
+  (λ (outside : IsOutside lens area). subst (λ (gs : List HalfSpace). Any (λ h. Excludes h area) gs) (sym are) outside),
+)
 
 -- a box whose corners one of some half-spaces has none of has no point that lies in them all
 pub excludes-all : (hs : List HalfSpace) (area : Box3) (p : Point) → Any (λ h. Excludes h area) hs → IsTrue (in_box area p) → ¬ All (λ h. Meets h p) hs
@@ -139,12 +188,3 @@ excludes-all hs area p some within = λ (all : All (λ h. Meets h p) hs).
     let h : HalfSpace = some.1 in
     let meets : Meets h p = subst (λ (g : HalfSpace). Meets g p) some.3 (all some.0 h some.2) in
     excludes-point h area p some.4 within meets
-
--- what a test over a camera's half-spaces says
-pub not_outside : (lens : Lens) (area : Box3) (hs : List HalfSpace) (told : Bool) → hs ≡ half_spaces lens → IsTrue told ↔ Any (λ h. Excludes h area) hs → told ≡ false → ¬ IsOutside lens area
-not_outside lens area hs told are says is = λ (outside : IsOutside lens area).
-    let yes : told ≡ true = says.1 (subst (λ (gs : List HalfSpace). Any (λ h. Excludes h area) gs) (sym are) outside) in
-    absurd (cc (yes, is))
-
-pub is_outside : (lens : Lens) (area : Box3) (hs : List HalfSpace) (told : Bool) → hs ≡ half_spaces lens → IsTrue told ↔ Any (λ h. Excludes h area) hs → told ≡ true → IsOutside lens area
-is_outside lens area hs told are says is = subst (λ (gs : List HalfSpace). Any (λ h. Excludes h area) gs) are (says.0 is)

@@ -79,12 +79,17 @@ slice_get-lt [] k block is = absurd cc
 slice_get-lt (x ∷ blocks) zero block is = omega arith
 slice_get-lt (x ∷ blocks) (suc k) block is = let rest : k < length blocks = slice_get-lt blocks k block is in omega (arith, rest)
 
--- those of all blocks
-pub kept_all : (lens : Lens) (blocks : List Block) (upto : ℕ) (kept : List ℕ) → upto ≡ length blocks → IsPicked (λ block. ¬ IsOutside lens block.area) blocks upto kept → IsKept lens blocks kept
-kept_all lens blocks upto kept all h = record {
+-- those of all blocks, by a condition that is met where a block isn't outside
+pub kept_all : (P : Block → Type 0) (lens : Lens) (blocks : List Block) (upto : ℕ) (kept : List ℕ) → upto ≡ length blocks → ((block : Block) → P block ↔ (¬ IsOutside lens block.area)) → IsPicked P blocks upto kept → IsKept lens blocks kept
+kept_all P lens blocks upto kept all means h = record {
   rising = h.rising;
   below = subst (λ (n : ℕ). All (λ k. k < n) kept) all h.within;
-  exactly = λ k block is. h.exactly k block (let lt : k < length blocks = slice_get-lt blocks k block is in omega (arith, lt, all)) is;
+  exactly = λ k block is.
+      let lt : k < length blocks = slice_get-lt blocks k block is in
+      let told : Contains kept k ↔ P block = h.exactly k block (omega (arith, lt, all)) is in (
+        (λ (has : Contains kept k). (means block).0 (told.0 has)),
+        (λ (not : ¬ IsOutside lens block.area). told.1 ((means block).1 not)),
+      );
 }
 
 -- a block in whose box a point is in view is one of those that are not outside

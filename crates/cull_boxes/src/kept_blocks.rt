@@ -1,7 +1,13 @@
-ghost use Rattle.std.specs.Prelude.{◌≡◌, ◌<◌, ◌≤◌, IfOk, length, slice_index};
+ghost use Rattle.std.specs.Prelude.{◌≡◌, ◌↔◌, ◌<◌, ◌≤◌, All, Any, IfOk, length, slice_index};
+ghost use Rattle.view_base.specs.declared.place.Box3.{Box3 as Area};
+ghost use Rattle.view_meaning.specs.Camera.{Lens};
+ghost use Rattle.int_camera.specs.HalfSpaces.{HasNormal};
+ghost use Rattle.cull_boxes.specs.Outside.{Excludes, IsOutside};
 ghost use Rattle.cull_boxes.specs.Kept.{HasEachInView, IsKept};
 
 use crate::boxes::some_excludes;
+use crate::cull::Cull;
+use crate::narrow::narrow_all;
 use grid_blocks::Blocks;
 use int_camera::{Camera, half_spaces};
 use std::alloc::Global;
@@ -50,10 +56,23 @@ pub fn kept(alloc: Global, camera: &Camera, blocks: &Blocks) -> Result<KeptBlock
     ensures in_view { IfOk result (HasEachInView camera.now blocks.now.blocks) }
 {
     let spaces = half_spaces(camera);
+    match narrow_all(&spaces) {
+        Some(narrow) => kept_by(alloc, &narrow, blocks),
+        None => kept_by(alloc, &spaces, blocks),
+    }
+}
+
+/// The numbers of the blocks whose boxes none of some half-spaces excludes, in rising order.
+fn kept_by<S: Cull>(alloc: Global, spaces: &[S], blocks: &Blocks) -> Result<KeptBlocks, OutOfMemory>
+    requires normals { All (λ s. HasNormal (S.half_space s)) spaces.now }
+    ensures kept { (lens : Lens) → ((area : Area) → Any (λ s. Excludes (S.half_space s) area) spaces.now ↔ IsOutside lens area)
+        → IfOk result (IsKept lens blocks.now.blocks) }
+    ensures few { IfOk result (λ kept. length kept ≤ length blocks.now.blocks) }
+{
     let mut list = Listing::new(alloc);
     list.reserve(blocks.count() as usize)?;
     for k in 0..blocks.count() {
-        if !some_excludes(&spaces, &blocks.block(k).area) {
+        if !some_excludes(spaces, &blocks.block(k).area) {
             list.push_within(k);
         }
     }

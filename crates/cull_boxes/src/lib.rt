@@ -3,9 +3,12 @@
 #![tactic(auto)]
 
 mod boxes;
+mod cull;
 mod kept_blocks;
+mod narrow;
 #[cfg(test)]
 mod tests;
+mod wide;
 
 pub use boxes::outside;
 pub use kept_blocks::{KeptBlocks, kept};

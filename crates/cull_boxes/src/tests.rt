@@ -1,6 +1,8 @@
+use crate::boxes::some_excludes;
+use crate::narrow::narrow_all;
 use crate::{kept, outside};
 use grid_blocks::build;
-use int_camera::{Camera, CameraNumbers, Kind};
+use int_camera::{Camera, CameraNumbers, Kind, half_spaces};
 use las_survey::{Survey, load};
 use std::alloc::Global;
 use std::process::Abort;
@@ -120,4 +122,71 @@ fn a_box_behind_the_eye_is_outside(rt: HostRuntime) {
     assert!(rt; !is_outside(&rt, [-5, -5, -9], [5, 5, 1]));
     assert!(rt; is_outside(&rt, [9, -5, 1], [99, 5, 9]));
     assert!(rt; !is_outside(&rt, [8, -5, 1], [99, 5, 9]));
+}
+
+/// A camera in perspective of two pixels with this eye, vector to the right and focal number, that
+/// looks along Z to a depth of 10.
+fn camera_with(
+    rt: &impl Abort,
+    [x, y, z]: [i128; 3],
+    [right_x, right_y, right_z]: [i128; 3],
+    focal: i128,
+) -> Camera {
+    let n = [
+        2, 1, x, y, z, right_x, right_y, right_z, 0, 1, 0, 0, 0, 1, focal, 1, 1, 10,
+    ];
+    let kind = Kind::Persp;
+    Camera::new(&CameraNumbers { kind, n }).expect(rt, "a camera")
+}
+
+/// Whether a box is outside by the wide form and, where the numbers fit, by the narrow one.
+fn by_both(
+    camera: &Camera,
+    [x, y, z]: [i32; 3],
+    [to_x, to_y, to_z]: [i32; 3],
+) -> (bool, Option<bool>) {
+    let area = Box3 {
+        min: Point { x, y, z },
+        max: Point {
+            x: to_x,
+            y: to_y,
+            z: to_z,
+        },
+    };
+    let narrow = match narrow_all(&half_spaces(camera)) {
+        Some(spaces) => Some(some_excludes(&spaces, &area)),
+        None => None,
+    };
+    (outside(camera, &area), narrow)
+}
+
+#[test]
+fn parts_of_2_to_the_30_are_narrow(rt: HostRuntime) {
+    // With depths 1 to 10 along Z, all in view has the eye's own X.
+    let camera = camera_with(&rt, [0, 0, -2147483648], [-32768, 0, 0], 32768);
+    let right = by_both(&camera, [1, 0, -2147483647], [2147483647, 0, -2147483638]);
+    assert!(rt; right == (true, Some(true)));
+    let left = by_both(&camera, [-2147483648, 0, -2147483647], [-1, 0, -2147483638]);
+    assert!(rt; left == (true, Some(true)));
+    let ahead = by_both(&camera, [0, 0, -2147483647], [0, 0, -2147483647]);
+    assert!(rt; ahead == (false, Some(false)));
+}
+
+#[test]
+fn parts_above_2_to_the_30_are_wide(rt: HostRuntime) {
+    let camera = camera_with(&rt, [0, 0, -2147483648], [-32768, 0, 0], 32769);
+    let right = by_both(&camera, [1, 0, -2147483647], [2147483647, 0, -2147483638]);
+    assert!(rt; right == (true, None));
+    let ahead = by_both(&camera, [0, 0, -2147483647], [0, 0, -2147483647]);
+    assert!(rt; ahead == (false, None));
+}
+
+#[test]
+fn the_largest_narrow_sums_do_not_wrap(rt: HostRuntime) {
+    let least = -2147483648;
+    let most = 2147483647;
+    let camera = camera_with(&rt, [-2147483648; 3], [-32768; 3], 32767);
+    assert!(rt; by_both(&camera, [most; 3], [most; 3]) == (true, Some(true)));
+    assert!(rt; by_both(&camera, [least; 3], [most; 3]) == (false, Some(false)));
+    assert!(rt; by_both(&camera, [least; 3], [least; 3]) == (true, Some(true)));
 }
