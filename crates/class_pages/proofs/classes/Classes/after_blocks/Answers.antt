@@ -9,7 +9,7 @@ use Rattle.class_pages.proofs.Blockwise.{block_at, blocks_none, blocks_more, mad
 use Rattle.class_pages.proofs.Fitting.{after_edit-fits}
 use Rattle.class_pages.proofs.Steps.{after_edit-classes}
 use Rattle.class_pages.proofs.Versions.{length-after_edit, changed_same, changed_most}
-use Rattle.class_pages.proofs.classes.Classes.edited_by.Goals as goal
+use Rattle.class_pages.proofs.classes.Classes.after_blocks.Goals as goal
 
 pub loop-k-init : goal.loop-k-init
 loop-k-init c =
