@@ -91,7 +91,10 @@ mod tests {
 
     #[test]
     fn a_number_on_another_cache_line_is_far(rt: HostRuntime) {
-        assert_eq!(rt; [far_steps(&[]), far_steps(&[5]), far_steps(&[0, 63])], [0; 3]);
+        assert_eq!(rt;
+            [far_steps(&[]), far_steps(&[5]), far_steps(&[0, 63])],
+            [0; 3]
+        );
         assert_eq!(rt; [far_steps(&[63, 64]), far_steps(&[64, 0, 64])], [1, 2]);
     }
 

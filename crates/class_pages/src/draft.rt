@@ -125,12 +125,7 @@ impl Draft {
     /// Makes an edit of the class of record `i`, which is in the edit's area, and answers how many
     /// classes change.
     #[inline]
-    pub(crate) fn change(
-        &mut self,
-        alloc: Global,
-        i: u32,
-        edit: &Edit,
-    ) -> Result<u64, OutOfMemory>
+    pub(crate) fn change(&mut self, alloc: Global, i: u32, edit: &Edit) -> Result<u64, OutOfMemory>
         requires { i < length self.old }
         ensures made { OnOk result (self.new ≡ slice_set self.old i (class_inside (slice_index self.old i) edit.now)) }
         ensures count { IfOk result (λ changed. changed ≡ (if class_inside (slice_index self.old i) edit.now == slice_index self.old i then 0 else 1)) }

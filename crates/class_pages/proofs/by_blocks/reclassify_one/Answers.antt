@@ -1,7 +1,6 @@
 use Rattle.std.proofs.Common.{◌≡◌, ◌==◌, if◌then◌else◌, true, ℕ, get_or, set, sym, ◌∙◌, ap, subst}
 use Rattle.std.specs.Prelude.{IfOk, OnOk}
-use Rattle.view_meaning.specs.Classes.{Edit, class_after, in_box}
-use Rattle.class_pages.specs.AfterEdit.{class_inside}
+use Rattle.view_meaning.specs.Classes.{Edit, in_box}
 use Rattle.class_pages.proofs.Further.{after_inside}
 use Rattle.class_pages.proofs.by_blocks.reclassify_one.Goals as goal
 
