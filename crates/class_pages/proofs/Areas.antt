@@ -1,16 +1,17 @@
 -- Boxes that hold points, and the boxes of a survey's pages one after another.
-use Rattle.std.proofs.Common.{◌≡◌, ℕ, suc, ◌+◌, ◌*◌, ◌-◌, ◌<◌, ◌&&◌, min, ℤ, Bool, true, false, List, [], ◌∷◌, ◌++◌, length, get_or, inl, inr, refl, sym, ◌∙◌, ap, arith}
+use Rattle.std.proofs.Common.{◌≡◌, ℕ, suc, ◌+◌, ◌*◌, ◌-◌, ◌<◌, ◌&&◌, min, ℤ, w32, to_z, of_z, Bool, true, false, List, [], ◌∷◌, ◌++◌, length, get_or, inl, inr, refl, sym, ◌∙◌, ap, arith}
 use Rattle.std.proofs.lemmas.Bool.{cases_lt}
-use Rattle.std.proofs.lemmas.Int.{ints, clamps}
+use Rattle.std.proofs.lemmas.Int.{ints, clamps, to_z-of_z}
 use Rattle.std.proofs.lemmas.List.{length-append, get_or_append_left, get_or-append_right}
 use Rattle.std.specs.Int.{int_min, int_max}
 use Rattle.view_base.specs.declared.place.Point.{Point}
 use Rattle.view_base.specs.declared.place.Box3.{Box3}
 use Rattle.view_meaning.specs.Classes.{in_box}
 use Rattle.view_meaning.specs.Survey.{point_of, record_count}
-use Rattle.class_pages.specs.Boxes.{Holds, HoldsNone, AreBoxesOf, meets, wider}
+use Rattle.class_pages.specs.Boxes.{Holds, HoldsNone, AreBoxesOf, covers, meets, wider}
 use Rattle.class_pages.specs.Pages.{page_count}
 use lib.Signed.{le_z}
+use mir.Val.{SFits}
 
 -- a point lies in a box
 record IsIn (a : Box3) (p : Point) : Type 0 where
@@ -72,6 +73,23 @@ apart a b p far here = by_case (in_box b p) refl
         no_case : true ≡ false → in_box b p ≡ false
         no_case e = absurd (cc e)
     by_case false is = is
+
+-- a point of a box that an area covers lies in the area
+pub covered : (a b : Box3) (p : Point) → covers a b ≡ true → in_box b p ≡ true → in_box a p ≡ true
+covered a b p whole here =
+    let s = is_in b p here in
+    let five = left _ (le_z b.max.z a.max.z) whole in
+    let four = left _ (le_z a.min.z b.min.z) five in
+    let three = left _ (le_z b.max.y a.max.y) four in
+    let two = left _ (le_z a.min.y b.min.y) three in
+    in_it a p (record {
+      low_x = through a.min.x b.min.x p.x (left (le_z a.min.x b.min.x) (le_z b.max.x a.max.x) two) s.low_x;
+      high_x = through p.x b.max.x a.max.x s.high_x (right (le_z a.min.x b.min.x) (le_z b.max.x a.max.x) two);
+      low_y = through a.min.y b.min.y p.y (right _ (le_z a.min.y b.min.y) three) s.low_y;
+      high_y = through p.y b.max.y a.max.y s.high_y (right _ (le_z b.max.y a.max.y) four);
+      low_z = through a.min.z b.min.z p.z (right _ (le_z a.min.z b.min.z) five) s.low_z;
+      high_z = through p.z b.max.z a.max.z s.high_z (right _ (le_z b.max.z a.max.z) whole);
+    })
 
 least : (x y : ℤ) → le_z (int_min x y) y ≡ true
 least x y = grind (arith, ints, clamps)
@@ -154,3 +172,7 @@ pub unmet : (b : List ℕ) (boxes : List Box3) (k : ℕ) (d a area : Box3) → A
 unmet b boxes k d a area h some is far = λ i most within.
     let there : k < length boxes = omega (arith, some, h.count) in
     apart a area (point_of b (k * 4096 + i)) far (ap (λ (c : Box3). in_box c (point_of b (k * 4096 + i))) is ∙ h.around k i d there most within)
+
+-- coordinates compare as the numbers that they are read as
+pub same_test : (p q : ℤ) → SFits w32 p → SFits w32 q → le_z (to_z w32 (of_z w32 p)) (to_z w32 (of_z w32 q)) ≡ le_z p q
+same_test p q one two = ap (λ (z : ℤ). le_z z (to_z w32 (of_z w32 q))) (to_z-of_z w32 p one) ∙ ap (le_z p) (to_z-of_z w32 q two)

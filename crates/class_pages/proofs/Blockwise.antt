@@ -1,5 +1,5 @@
 -- An edit that is made of one block's records after another's.
-use Rattle.std.proofs.Common.{◌≡◌, ℕ, zero, suc, ◌+◌, ◌-◌, ◌<◌, ◌≤◌, Bool, true, false, List, [], ◌∷◌, length, get_or, take, drop, map, Some, inl, inr, refl, sym, ◌∙◌, ap, subst, arith, All}
+use Rattle.std.proofs.Common.{◌≡◌, ℕ, zero, suc, ◌+◌, ◌-◌, ◌<◌, ◌≤◌, true, false, List, [], ◌∷◌, length, get_or, take, drop, Some, inl, inr, refl, sym, ◌∙◌, ap, subst, arith, All}
 use Rattle.std.specs.Prelude.{slice_get}
 use Rattle.std.specs.List.{range_with_len}
 use Rattle.std.proofs.lemmas.Bool.{cases_lt}
@@ -16,9 +16,9 @@ use Rattle.grid_blocks.proofs.Kept.{cut_within}
 use Rattle.grid_blocks.proofs.Laws.{block_of, place_of, within_area}
 use Rattle.grid_blocks.proofs.Once.{length-once, part-range}
 use Rattle.class_pages.specs.AfterEdit.{after_edit}
-use Rattle.class_pages.specs.Boxes.{meets}
-use Rattle.class_pages.specs.Underway.{after_at, IsUnderway, IsMadeOf, IsFurther}
-use Rattle.class_pages.proofs.Areas.{apart}
+use Rattle.class_pages.specs.Boxes.{covers, meets}
+use Rattle.class_pages.specs.Underway.{AreIn, after_at, IsUnderway, IsMadeOf, IsFurther}
+use Rattle.class_pages.proofs.Areas.{apart, covered}
 use Rattle.class_pages.proofs.Further.{made_outside}
 use Rattle.class_pages.proofs.Versions.{length-after_edit, get_or-after_edit}
 
@@ -39,19 +39,23 @@ same_block blocks k x y one two =
     let both : Some x ≡ Some y = sym one ∙ two in
     cc
 
--- each member of a block is a record's number
-pub members_below : (b : List ℕ) (blocked : Blocked) (block : Block) (numbers : List ℕ) → IsBlocks b blocked → numbers ≡ part block blocked.members → All (λ i. i < record_count b) numbers
-members_below b blocked block numbers are is =
-    All-same (λ i. i < record_count b) numbers (part block blocked.members) is
-    (All-take (λ i. i < record_count b) block.count (drop block.first blocked.members)
-    (All-drop (λ i. i < record_count b) block.first blocked.members
-    (All-permutation (λ i. i < record_count b) (range_with_len 0 (record_count b)) blocked.members are.members (range_below (record_count b)))))
+-- each member is a record's number
+pub all_below : (b : List ℕ) (blocked : Blocked) → IsBlocks b blocked → All (λ i. i < record_count b) blocked.members
+all_below b blocked are = All-permutation (λ i. i < record_count b) (range_with_len 0 (record_count b)) blocked.members are.members (range_below (record_count b))
   where
     range_below : (n : ℕ) → All (λ i. i < n) (range_with_len 0 n)
     range_below n k d lt =
         let size = length-range_with_len 0 n in
         let here : get_or (range_with_len 0 n) k d ≡ 0 + k = get_or-range_with_len 0 n k d (omega (arith, lt, size)) in
         omega (arith, here, lt, size)
+
+-- what holds of each member holds of those of a block
+pub all_part : (P : ℕ → Type 0) (members numbers : List ℕ) (block : Block) → numbers ≡ part block members → All P members → All P numbers
+all_part P members numbers block is h = All-same P numbers (part block members) is (All-take P block.count (drop block.first members) (All-drop P block.first members h))
+
+-- each member of a block is a record's number
+pub members_below : (b : List ℕ) (blocked : Blocked) (block : Block) (numbers : List ℕ) → IsBlocks b blocked → numbers ≡ part block blocked.members → All (λ i. i < record_count b) numbers
+members_below b blocked block numbers are is = all_part (λ i. i < record_count b) blocked.members numbers block is (all_below b blocked are)
 
 -- the member at a place of a block
 member_at : (members : List ℕ) (block : Block) (j d : ℕ) → j < length (part block members) → get_or (part block members) j d ≡ get_or members (block.first + j) 0
@@ -66,6 +70,14 @@ members_outside b blocked k block area are is far = λ j d lt.
     let few : j < block.count = let long = length-take block.count (drop block.first blocked.members) in omega (arith, lt, long) in
     subst (λ (i : ℕ). in_box area (point_of b i) ≡ false) (sym (member_at blocked.members block j d lt))
     (apart block.area area (point_of b (get_or blocked.members (block.first + j) 0)) far (within_area b blocked k (block.first + j) block are is (omega arith) (omega (arith, few))))
+
+-- where an area covers a block's box, each of its members lies in the area
+pub members_inside : (b : List ℕ) (blocked : Blocked) (k : ℕ) (block : Block) (area : Box3) → IsBlocks b blocked → slice_get blocked.blocks k ≡ Some block → covers area block.area ≡ true
+    → AreIn b area (part block blocked.members)
+members_inside b blocked k block area are is whole = λ j d lt.
+    let few : j < block.count = let long = length-take block.count (drop block.first blocked.members) in omega (arith, lt, long) in
+    subst (λ (i : ℕ). in_box area (point_of b i) ≡ true) (sym (member_at blocked.members block j d lt))
+    (covered area block.area (point_of b (get_or blocked.members (block.first + j) 0)) whole (within_area b blocked k (block.first + j) block are is (omega arith) (omega (arith, few))))
 
 -- a block that is passed over
 pub further_unmet : (b : List ℕ) (e : Edit) (old new : List ℕ) (blocked : Blocked) (k : ℕ) (block : Block) → IsBlocks b blocked → length new ≡ record_count b → slice_get blocked.blocks k ≡ Some block → meets block.area e.area ≡ false

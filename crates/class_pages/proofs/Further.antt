@@ -1,6 +1,6 @@
 -- An edit that is made of one record after another.
-use Rattle.std.proofs.Common.{◌≡◌, ◌≢◌, ℕ, zero, suc, ◌+◌, ◌-◌, ◌<◌, ◌≤◌, ◌==◌, ◌&&◌, not, Bool, true, false, cond, if◌then◌else◌, List, length, get_or, set, take, drop, map, Some, inl, inr, refl, sym, ◌∙◌, ap, subst, arith, All, count_by}
-use Rattle.std.specs.Prelude.{◌⊎◌, slice_get}
+use Rattle.std.proofs.Common.{◌≡◌, ◌≢◌, ℕ, zero, suc, ◌+◌, ◌<◌, ◌≤◌, ◌==◌, ◌&&◌, not, Bool, true, false, cond, if◌then◌else◌, List, length, get_or, set, take, map, inl, inr, refl, sym, ◌∙◌, ap, subst, arith, All, count_by}
+use Rattle.std.specs.Prelude.{◌⊎◌}
 use Rattle.std.proofs.lemmas.Bool.{cases_eq, cases_lt}
 use Rattle.std.proofs.lemmas.Bool.Decides.{nat_tests}
 use Rattle.std.proofs.lemmas.List.{length-set, get_or-set_same, get_or-set_other, get_or_default, get_or-map, get_or-take, length-take, take_all}
@@ -8,6 +8,7 @@ use Rattle.std.specs.List.{range_with_len}
 use Rattle.view_base.specs.declared.place.Point.{Point}
 use Rattle.view_meaning.specs.Survey.{point_of}
 use Rattle.view_meaning.specs.Classes.{Edit, in_box, has, class_after, changed}
+use Rattle.class_pages.specs.AfterEdit.{class_inside}
 use Rattle.class_pages.specs.Underway.{after_at, IsUnderway, IsMadeOf, IsFurther}
 use Rattle.class_pages.proofs.Steps.{counts_more, counts_same}
 
@@ -165,6 +166,17 @@ further_more b e old start mid new numbers j next n v count step p more in_numbe
     carried : (new mid old made : ℕ) → new ≡ mid → (mid ≡ old) ⊎ (mid ≡ made) → (new ≡ old) ⊎ (new ≡ made)
     carried new mid old made is (inl same) = inl (is ∙ same)
     carried new mid old made is (inr other) = inr (is ∙ other)
+
+-- what an edit makes of a class in its area
+pub after_inside : (p : Point) (c : ℕ) (e : Edit) → in_box e.area p ≡ true → class_inside c e ≡ class_after p c e
+after_inside p c e inside = sym (ap (λ (t : Bool). if (t && has e.from c) then e.to else c) inside)
+
+-- one more record, which lies in the edit's area
+pub further_inside : (b : List ℕ) (e : Edit) (old start mid new numbers : List ℕ) (j next n count step : ℕ) → next ≡ j + 1 → j < length numbers → n ≡ get_or numbers j 0 → n < length old → in_box e.area (point_of b n) ≡ true
+    → new ≡ set mid n (class_inside (get_or mid n 0) e) → step ≡ (if class_inside (get_or mid n 0) e == get_or mid n 0 then 0 else 1) → IsFurther b e old start mid (take j numbers) count
+    → IsFurther b e old start new (take next numbers) (count + step)
+further_inside b e old start mid new numbers j next n count step more in_numbers is lt inside made counted h =
+    further_more b e old start mid new numbers j next n (class_inside (get_or mid n 0) e) count step (point_of b n) more in_numbers is lt refl (after_inside (point_of b n) (get_or mid n 0) e inside) made counted h
 
 -- all of them
 pub further_all : (b : List ℕ) (e : Edit) (old start new numbers : List ℕ) (j count : ℕ) → length numbers ≤ j → IsFurther b e old start new (take j numbers) count → IsFurther b e old start new numbers count

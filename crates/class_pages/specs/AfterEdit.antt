@@ -1,8 +1,12 @@
 -- The classes after one more edit.
-use Rattle.std.specs.Prelude.{◌≡◌, ℕ, ◌+◌, ◌<◌, List, map, length, slice_index}
+use Rattle.std.specs.Prelude.{◌≡◌, ℕ, ◌+◌, ◌<◌, if◌then◌else◌, List, map, length, slice_index}
 use Rattle.std.specs.List.{range_with_len}
 use Rattle.view_meaning.specs.Survey.{point_of}
-use Rattle.view_meaning.specs.Classes.{Edit, class_after}
+use Rattle.view_meaning.specs.Classes.{Edit, class_after, has}
+
+-- the class after an edit of a record in the edit's area
+abbrev pub class_inside : ℕ → Edit → ℕ
+class_inside class edit = if has edit.from class then edit.to else class
 
 -- the classes of all records after one more edit
 unfoldable pub after_edit : List ℕ → List ℕ → Edit → List ℕ

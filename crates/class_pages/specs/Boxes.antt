@@ -25,6 +25,10 @@ pub record AreBoxesOf (b : List ℕ) (boxes : List Box3) : Type 0 where
 abbrev pub meets : Box3 → Box3 → Bool
 meets a b = le_z a.min.x b.max.x && le_z b.min.x a.max.x && le_z a.min.y b.max.y && le_z b.min.y a.max.y && le_z a.min.z b.max.z && le_z b.min.z a.max.z
 
+-- whether a box holds the whole of another, which holds a point
+abbrev pub covers : Box3 → Box3 → Bool
+covers a b = le_z a.min.x b.min.x && le_z b.max.x a.max.x && le_z a.min.y b.min.y && le_z b.max.y a.max.y && le_z a.min.z b.min.z && le_z b.max.z a.max.z
+
 -- the least box around a box that holds a point and one more point
 abbrev pub wider : Box3 → Point → Box3
 wider area p = record {

@@ -48,7 +48,8 @@ fn edit_plain(plain: &mut [u8], edit: &Edit) -> u64 {
     changed
 }
 
-/// Makes a hundred edits of the newest classes and of the plain list.
+/// Makes a hundred edits of the newest classes and of the plain list. Those that reach far go by
+/// pages, and the others by blocks.
 fn edit_often(
     rt: &impl Abort,
     alloc: Global,
@@ -60,8 +61,11 @@ fn edit_often(
     requires { IsBlocks survey.now blocks.now }
 {
     let mut seed = 11;
-    for _ in 0..100 {
-        let edit = drawn_edit(&mut seed)?;
+    for number in 0..100 {
+        let mut edit = drawn_edit(&mut seed)?;
+        if number % 4 == 0 {
+            edit.area.max.x = edit.area.max.x.saturating_add(60000);
+        }
         let wanted = edit_plain(plain, &edit);
         *newest = edited(rt, alloc, survey, blocks, newest, &edit, wanted)?;
     }

@@ -1,6 +1,6 @@
 ghost use Rattle.std.specs.Prelude.{◌≡◌, ℕ, ◌+◌, ◌*◌, ◌<◌, ◌≤◌, ◌^◌, IfOk, IfSome, false};
 ghost use Rattle.std.specs.Int.{int_min, int_max};
-ghost use Rattle.class_pages.specs.Boxes.{AreBoxesOf, Holds, HoldsNone, meets, wider};
+ghost use Rattle.class_pages.specs.Boxes.{AreBoxesOf, Holds, HoldsNone, covers, meets, wider};
 ghost use Rattle.view_meaning.specs.Survey.{record_count};
 
 use crate::page::PAGE;
@@ -110,4 +110,16 @@ pub(crate) fn meet(a: Box3, b: Box3) -> bool
         & (b.min.y <= a.max.y)
         & (a.min.z <= b.max.z)
         & (b.min.z <= a.max.z)
+}
+
+/// Whether a box holds the whole of another, which holds a point.
+pub(crate) fn contains(a: Box3, b: Box3) -> bool
+    ensures { result ≡ covers a b }
+{
+    (a.min.x <= b.min.x)
+        & (b.max.x <= a.max.x)
+        & (a.min.y <= b.min.y)
+        & (b.max.y <= a.max.y)
+        & (a.min.z <= b.min.z)
+        & (b.max.z <= a.max.z)
 }

@@ -1,14 +1,13 @@
 ghost use Rattle.std.specs.Prelude.{◌≡◌, ℕ, ◌+◌, ◌<◌, ◌≤◌, ◌^◌, ◌==◌, if◌then◌else◌, All, IfOk, List, OnOk, Some, length, map, slice_get, slice_index, slice_set};
 ghost use Rattle.std.specs.List.{range_with_len};
-ghost use Rattle.class_pages.specs.Underway.{IsFurther, IsUnderway};
+ghost use Rattle.class_pages.specs.Underway.{AreIn, IsFurther, IsUnderway};
 ghost use Rattle.grid_blocks.specs.Blocks.{IsBlocks, part};
 ghost use Rattle.grid_blocks.specs.declared.block.Block.{Block};
 ghost use Rattle.view_meaning.specs.Classes as meaning;
 ghost use Rattle.view_meaning.specs.Survey.{point_of, record_count};
 
-use crate::boxes::meet;
+use crate::boxes::{contains, meet};
 use crate::draft::Draft;
-use crate::page::class_after;
 use edit_ops::Edit;
 use grid_blocks::Blocks;
 use las_points::xyz;
@@ -17,7 +16,8 @@ use std::alloc::Global;
 use view_base::{Box3, OutOfMemory, Point};
 
 /// Makes an edit of the classes of block `k`'s records, and answers how many change. A block whose
-/// box the edit's area doesn't meet is passed over.
+/// box the edit's area doesn't meet is passed over, and no point is looked at in a block whose box
+/// the area holds.
 pub(crate) fn reclassify_block(
     draft: &mut Draft,
     alloc: Global,
@@ -35,10 +35,72 @@ pub(crate) fn reclassify_block(
     if !meet(block.area, edit.area) {
         return Ok(0);
     }
+    if contains(edit.area, block.area) {
+        return reclassify_inside(draft, alloc, blocks, k, edit);
+    }
     match blocks.records(k) {
         Some(records) => reclassify_each(draft, alloc, records.numbers, records.points, edit),
         None => reclassify_run(draft, alloc, survey, block.first, block.count, edit),
     }
+}
+
+/// Makes an edit of the classes of block `k`'s records, all of which are in the edit's area, and
+/// answers how many change.
+fn reclassify_inside(
+    draft: &mut Draft,
+    alloc: Global,
+    blocks: &Blocks,
+    k: u32,
+    edit: &Edit,
+) -> Result<u64, OutOfMemory>
+    requires members { All (λ i. i < length draft.old) blocks.now.members }
+    requires records { length draft.old ≡ length blocks.now.members }
+    requires block { k < length blocks.now.blocks }
+    ensures { IfOk result (λ changed. (b old : List ℕ) (block : Block) → slice_get blocks.now.blocks k ≡ Some block → AreIn b edit.now.area (part block blocks.now.members) → IsUnderway b edit.now old draft.old → IsFurther b edit.now old draft.old draft.new (part block blocks.now.members) changed) }
+{
+    let block = blocks.block(k);
+    match blocks.records(k) {
+        Some(records) => change_each(draft, alloc, records.numbers, edit),
+        None => change_run(draft, alloc, block.first, block.count, edit),
+    }
+}
+
+/// Makes an edit of the classes of the records of these numbers, all of which are in the edit's
+/// area, and answers how many change.
+fn change_each(
+    draft: &mut Draft,
+    alloc: Global,
+    numbers: &[u32],
+    edit: &Edit,
+) -> Result<u64, OutOfMemory>
+    requires { All (λ i. i < length draft.old) numbers.now }
+    ensures { IfOk result (λ changed. (b old : List ℕ) → AreIn b edit.now.area numbers.now → IsUnderway b edit.now old draft.old → IsFurther b edit.now old draft.old draft.new numbers.now changed) }
+{
+    let mut changed = 0;
+    for place in 0..numbers.len() {
+        changed += draft.change(alloc, numbers[place], edit)?;
+    }
+    Ok(changed)
+}
+
+/// Makes an edit of the classes of so many records from record `first` on, all of which are in the
+/// edit's area, and answers how many change.
+fn change_run(
+    draft: &mut Draft,
+    alloc: Global,
+    first: u32,
+    count: u32,
+    edit: &Edit,
+) -> Result<u64, OutOfMemory>
+    requires within { first + count ≤ length draft.old }
+    requires small { first + count < 2 ^ 32 }
+    ensures { IfOk result (λ changed. (b old : List ℕ) → AreIn b edit.now.area (range_with_len first count) → IsUnderway b edit.now old draft.old → IsFurther b edit.now old draft.old draft.new (range_with_len first count) changed) }
+{
+    let mut changed = 0;
+    for place in 0..count {
+        changed += draft.change(alloc, first + place, edit)?;
+    }
+    Ok(changed)
 }
 
 /// Makes an edit of the classes of the records of these numbers, which stand at these points, and
@@ -101,11 +163,5 @@ fn reclassify_one(
     if !meet(edit.area, Box3 { min: p, max: p }) {
         return Ok(0);
     }
-    let class = draft.class_at(i);
-    let after = class_after(edit, p, class);
-    if after == class {
-        return Ok(0);
-    }
-    draft.set(alloc, i, after)?;
-    Ok(1)
+    draft.change(alloc, i, edit)
 }

@@ -10,6 +10,7 @@ ghost use Rattle.view_meaning.specs.Survey.{record_count, format_of, point_of};
 
 use crate::boxes::{PageBoxes, may_change};
 use crate::by_blocks::reclassify_block;
+use crate::costs::is_quicker_by_pages;
 use crate::draft::Draft;
 use crate::page::{PAGE, Page, page_after, page_read};
 use edit_ops::Edit;
@@ -129,8 +130,32 @@ impl Classes {
         self.after(alloc, survey, Some(boxes), edit)
     }
 
-    /// `edited`, which looks only at the records of the blocks whose box the edit's area meets.
+    /// `edited`, which looks only at the records of the blocks whose box the edit's area meets, or at
+    /// all records where that is quicker.
     pub fn edited_by(
+        &self,
+        alloc: Global,
+        survey: &Survey,
+        blocks: &Blocks,
+        edit: &Edit,
+    ) -> Result<(Classes, u64), OutOfMemory>
+        requires blocks { IsBlocks survey.now blocks.now }
+        requires records { length self.now ≡ record_count survey.now }
+        requires room { edit.now.to ≤ meaning.top_class (format_of survey.now) }
+        ensures classes { IfOk result (λ made. made.0 ≡ after_edit survey.now self.now edit.now) }
+        ensures edits { IfOk result (λ made. (edits : List meaning.Edit) → self.now ≡ meaning.classes survey.now edits → made.0 ≡ meaning.classes survey.now (edits ++ edit.now ∷ [])) }
+        ensures count { IfOk result (λ made. made.1 ≡ meaning.changed self.now made.0) }
+        ensures size { IfOk result (λ made. length made.0 ≡ record_count survey.now) }
+        ensures top { IfOk result (λ made. EachFits (format_of survey.now) self.now → EachFits (format_of survey.now) made.0) }
+    {
+        if is_quicker_by_pages(survey.records(), blocks, edit) {
+            return self.after(alloc, survey, None, edit);
+        }
+        self.after_blocks(alloc, survey, blocks, edit)
+    }
+
+    /// The classes after an edit, and how many differ from before, block by block.
+    fn after_blocks(
         &self,
         alloc: Global,
         survey: &Survey,

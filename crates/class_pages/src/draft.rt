@@ -1,10 +1,12 @@
-ghost use Rattle.std.specs.Prelude.{◌≡◌, ◌<◌, IfOk, OnErr, OnOk, length, slice_index, slice_set};
+ghost use Rattle.std.specs.Prelude.{◌≡◌, ◌<◌, ◌==◌, if◌then◌else◌, IfOk, OnErr, OnOk, length, slice_index, slice_set};
 ghost use Rattle.std.specs.Arc.{arc_value};
 ghost use Rattle.std.specs.List.{flat_map};
+ghost use Rattle.class_pages.specs.AfterEdit.{class_inside};
 ghost use Rattle.class_pages.specs.Drafts.{classes_on};
 ghost use Rattle.class_pages.specs.Pages.{IsPaged};
 
-use crate::page::{PAGE, Page};
+use crate::page::{PAGE, Page, class_inside};
+use edit_ops::Edit;
 use std::alloc::Global;
 use std::marker::Model;
 use std::sync::Arc;
@@ -28,21 +30,44 @@ impl DraftPage {
         }
     }
 
-    /// Gives the class at a place another value. A shared page is copied before, and stays what it
-    /// was for those who share it.
-    fn set(&mut self, alloc: Global, place: usize, class: u8) -> Result<(), OutOfMemory>
+    /// Makes an edit of the class at a place, whose record is in the edit's area, and answers how
+    /// many classes change.
+    #[inline]
+    fn change(&mut self, alloc: Global, place: usize, edit: &Edit) -> Result<u64, OutOfMemory>
         requires { place < length (classes_on self.old) }
-        ensures set { OnOk result (classes_on self.new ≡ slice_set (classes_on self.old) place class) }
+        ensures made { OnOk result (classes_on self.new ≡ slice_set (classes_on self.old) place (class_inside (slice_index (classes_on self.old) place) edit.now)) }
+        ensures count { IfOk result (λ changed. changed ≡ (if class_inside (slice_index (classes_on self.old) place) edit.now == slice_index (classes_on self.old) place then 0 else 1)) }
+        ensures byte { class_inside (slice_index (classes_on self.old) place) edit.now < 256 }
         ensures refused { OnErr result (self.new ≡ self.old) }
     {
         if let DraftPage::Own(page) = self {
-            page.set(place, class);
-            return Ok(());
+            return Ok(page.change(place, edit));
+        }
+        self.change_copied(alloc, place, edit)
+    }
+
+    /// `change` of a page that is copied where the class changes, and stays what it was for those
+    /// who share it.
+    fn change_copied(
+        &mut self,
+        alloc: Global,
+        place: usize,
+        edit: &Edit,
+    ) -> Result<u64, OutOfMemory>
+        requires { place < length (classes_on self.old) }
+        ensures made { OnOk result (classes_on self.new ≡ slice_set (classes_on self.old) place (class_inside (slice_index (classes_on self.old) place) edit.now)) }
+        ensures count { IfOk result (λ changed. changed ≡ (if class_inside (slice_index (classes_on self.old) place) edit.now == slice_index (classes_on self.old) place then 0 else 1)) }
+        ensures byte { class_inside (slice_index (classes_on self.old) place) edit.now < 256 }
+        ensures refused { OnErr result (self.new ≡ self.old) }
+    {
+        let class = self.as_slice()[place];
+        if class_inside(edit, class) == class {
+            return Ok(0);
         }
         let mut page = Page::copied(alloc, self.as_slice())?;
-        page.set(place, class);
+        let changed = page.change(place, edit);
         *self = DraftPage::Own(page);
-        Ok(())
+        Ok(changed)
     }
 
     /// The page, to be shared.
@@ -97,22 +122,15 @@ impl Draft {
         })
     }
 
-    /// The class of record `i`.
+    /// Makes an edit of the class of record `i`, which is in the edit's area, and answers how many
+    /// classes change.
     #[inline]
-    pub(crate) fn class_at(&self, i: u32) -> u8
-        requires { i < length self.now }
-        ensures { result ≡ slice_index self.now i }
-    {
-        self.pages[i as usize / PAGE].as_slice()[i as usize % PAGE]
-    }
-
-    /// Gives record `i` another class.
-    #[inline]
-    pub(crate) fn set(&mut self, alloc: Global, i: u32, class: u8) -> Result<(), OutOfMemory>
+    pub(crate) fn change(&mut self, alloc: Global, i: u32, edit: &Edit) -> Result<u64, OutOfMemory>
         requires { i < length self.old }
-        ensures { OnOk result (self.new ≡ slice_set self.old i class) }
+        ensures made { OnOk result (self.new ≡ slice_set self.old i (class_inside (slice_index self.old i) edit.now)) }
+        ensures count { IfOk result (λ changed. changed ≡ (if class_inside (slice_index self.old i) edit.now == slice_index self.old i then 0 else 1)) }
     {
-        self.pages[i as usize / PAGE].set(alloc, i as usize % PAGE, class)
+        self.pages[i as usize / PAGE].change(alloc, i as usize % PAGE, edit)
     }
 
     /// The pages, to be shared.

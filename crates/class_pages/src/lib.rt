@@ -7,6 +7,7 @@ mod block_tests;
 mod boxes;
 mod by_blocks;
 mod classes;
+mod costs;
 mod draft;
 mod page;
 #[cfg(test)]

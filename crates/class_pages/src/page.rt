@@ -1,6 +1,6 @@
-ghost use Rattle.std.specs.Prelude.{◌≡◌, ℕ, ◌+◌, ◌<◌, ◌≤◌, ◌^◌, IfOk, IfSome, IfNone, List, [], length, take, drop, slice_index, slice_set};
+ghost use Rattle.std.specs.Prelude.{◌≡◌, ℕ, ◌+◌, ◌<◌, ◌≤◌, ◌^◌, ◌==◌, if◌then◌else◌, IfOk, IfSome, IfNone, List, [], length, take, drop, slice_index, slice_set};
 ghost use Rattle.std.specs.Arc.{arc_value};
-ghost use Rattle.class_pages.specs.AfterEdit.{IsAfter, IsSame};
+ghost use Rattle.class_pages.specs.AfterEdit.{IsAfter, IsSame, class_inside};
 ghost use Rattle.class_pages.specs.Fitting.{EachFits};
 ghost use Rattle.view_meaning.specs.Classes as meaning;
 ghost use Rattle.view_meaning.specs.Survey.{record_count, format_of, point_of};
@@ -47,13 +47,19 @@ impl Page {
         Ok(Page { list })
     }
 
-    /// Gives the class at a place another value.
+    /// Makes an edit of the class at a place, whose record is in the edit's area, and answers how
+    /// many classes change.
     #[inline]
-    pub(crate) fn set(&mut self, place: usize, class: u8)
+    pub(crate) fn change(&mut self, place: usize, edit: &Edit) -> u64
         requires { place < length self.old }
-        ensures { self.new ≡ slice_set self.old place class }
+        ensures made { self.new ≡ slice_set self.old place (class_inside (slice_index self.old place) edit.now) }
+        ensures count { result ≡ (if class_inside (slice_index self.old place) edit.now == slice_index self.old place then 0 else 1) }
+        ensures byte { class_inside (slice_index self.old place) edit.now < 256 }
     {
-        self.list[place] = class;
+        let class = self.list[place];
+        let after = class_inside(edit, class);
+        self.list[place] = after;
+        u64::from(after != class)
     }
 }
 
@@ -157,4 +163,12 @@ pub(crate) fn class_after(edit: &Edit, p: Point, class: u8) -> u8
     } else {
         class
     }
+}
+
+/// The class of a record in an edit's area with this class, after the edit.
+#[inline]
+pub(crate) fn class_inside(edit: &Edit, class: u8) -> u8
+    ensures { result ≡ class_inside class edit.now }
+{
+    if edit.from.has(class) { edit.to } else { class }
 }

@@ -47,5 +47,5 @@ fn is_in(area: Box3, p: Point) -> bool
 pub fn applies(edit: &Edit, p: Point, class: u8) -> bool
     ensures { result ≡ (in_box edit.now.area p && has edit.now.from class) }
 {
-    is_in(edit.area, p) && edit.from.has(class)
+    is_in(edit.area, p) & edit.from.has(class)
 }

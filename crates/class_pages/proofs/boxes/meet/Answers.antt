@@ -1,11 +1,6 @@
-use Rattle.std.proofs.Common.{◌≡◌, ℤ, w32, to_z, of_z, rules, ap, ◌∙◌}
-use Rattle.std.proofs.lemmas.Int.{to_z-of_z}
-use lib.Signed.{le_z}
-use mir.Val.{SFits}
+use Rattle.std.proofs.Common.{rules}
+use Rattle.class_pages.proofs.Areas.{same_test}
 use Rattle.class_pages.proofs.boxes.meet.Goals as goal
-
-same_test : (p q : ℤ) → SFits w32 p → SFits w32 q → le_z (to_z w32 (of_z w32 p)) (to_z w32 (of_z w32 q)) ≡ le_z p q
-same_test p q one two = ap (λ (z : ℤ). le_z z (to_z w32 (of_z w32 q))) (to_z-of_z w32 p one) ∙ ap (le_z p) (to_z-of_z w32 q two)
 
 pub returns : goal.returns
 returns c =

@@ -2,7 +2,7 @@ use Rattle.std.proofs.Common.{◌≡◌}
 use Rattle.view_meaning.specs.Classes.{changed}
 use Rattle.class_pages.specs.Underway.{IsUnderway}
 use Rattle.class_pages.proofs.Blockwise.{HasMadeBlocks}
-use Rattle.class_pages.proofs.classes.Classes.edited_by.Given as goal
+use Rattle.class_pages.proofs.classes.Classes.after_blocks.Given as goal
 
 abbrev pub invariant-loop-k : goal.invariant-loop-k
 invariant-loop-k l = record {

@@ -1,15 +1,14 @@
-use Rattle.std.proofs.Common.{◌≡◌, ℕ, List, ◌+◌, ◌<◌, ◌≤◌, length, ap, sym, subst, ◌∙◌, arith}
+use Rattle.std.proofs.Common.{◌≡◌, ℕ, List, ◌+◌, length, ap, sym, subst, ◌∙◌, arith}
 use Rattle.std.specs.Arc.{arc_value}
 use Rattle.std.specs.List.{flat_map}
-use Rattle.view_meaning.specs.Classes.{changed}
 use Rattle.view_meaning.specs.Survey.{format_of}
 use Rattle.class_pages.specs.AfterEdit.{after_edit}
 use Rattle.class_pages.specs.Fitting.{EachFits}
 use Rattle.class_pages.proofs.Blockwise.{block_at, blocks_none, blocks_more, made_is, underway_none}
 use Rattle.class_pages.proofs.Fitting.{after_edit-fits}
 use Rattle.class_pages.proofs.Steps.{after_edit-classes}
-use Rattle.class_pages.proofs.Versions.{length-after_edit, changed_same, changed_most}
-use Rattle.class_pages.proofs.classes.Classes.edited_by.Goals as goal
+use Rattle.class_pages.proofs.Versions.{changed_same, changed_most}
+use Rattle.class_pages.proofs.classes.Classes.after_blocks.Goals as goal
 
 pub loop-k-init : goal.loop-k-init
 loop-k-init c =
