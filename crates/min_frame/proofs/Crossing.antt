@@ -1,6 +1,6 @@
 -- Threads may share the words of a closed frame by `&`: what it lends are numbers.
 use Rattle.std.specs.Prelude.{Bool, true, false, List, [], ◌∷◌}
-use denote.Builtin.{RawPtr, usize, u64, unit}
+use denote.Builtin.{RawPtr, u32, u64, unit, usize}
 use denote.Param.Send.{IsSync, Common, whole-keyless, sendable}
 use denote.RattleType.{RattleType}
 use denote.RawPtr.{Ptr, block_ptr, null_ptr, block_of, count_of, ◌+ₚ◌}
@@ -13,6 +13,9 @@ pointer = search sendable
 
 number : IsSync usize
 number = search sendable
+
+count : IsSync u32
+count = search sendable
 
 word : IsSync u64
 word = search sendable
@@ -52,7 +55,7 @@ frame_words_sync = record {
           ),
           λ q. tt,
         ),
-        (number.shared x.0.pixels b _ κ, tt),
+        (count.shared x.0.pixels b _ κ, tt),
       ),
       λ q. tt,
     ),

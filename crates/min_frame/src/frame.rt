@@ -139,7 +139,7 @@ impl Frame {
         let Frame { table, pixels, .. } = self;
         FrameWords {
             closed: table.close_with(root.inner),
-            pixels: pixels as usize,
+            pixels,
         }
     }
 }

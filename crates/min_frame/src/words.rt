@@ -1,4 +1,4 @@
-ghost use Rattle.std.specs.Prelude.{◌≡◌, ◌<◌, length, slice_index};
+ghost use Rattle.std.specs.Prelude.{◌≡◌, ◌<◌, ◌^◌, length, slice_index};
 
 use atomic_table::Closed;
 use std::alloc::Global;
@@ -8,7 +8,7 @@ use std::marker::Model;
 /// Threads may read them side by side.
 pub struct FrameWords {
     pub(crate) closed: Closed<(), Global>,
-    pub(crate) pixels: usize,
+    pub(crate) pixels: u32,
 }
 
 impl Model for FrameWords {
@@ -30,9 +30,10 @@ impl FrameWords {
     /// How many pixels there are.
     #[inline]
     pub fn len(&self) -> usize
-        ensures { result ≡ length self.now }
+        ensures value { result ≡ length self.now }
+        ensures few { length self.now < 2 ^ 32 }
     {
-        self.pixels
+        self.pixels as usize
     }
 
     /// The word of a pixel.
