@@ -4,7 +4,7 @@ ghost use Rattle.view_meaning.specs.Frame.{IsFrame, NamesNearest};
 ghost use Rattle.view_meaning.specs.Survey.{record_count};
 
 use crate::drawing::draw_words;
-use crate::plan::Plan;
+use crate::plan::{Plan, step_for};
 use class_pages::Classes;
 use cull_boxes::kept;
 use grid_blocks::Blocks;
@@ -44,7 +44,6 @@ pub fn nearest_words<R: Threads + Sync, B: Beside>(
     prove!(survey.records() <= MOST_BLOCKS);
     let kept = kept(alloc, &view.camera, blocks)?;
     let pixels = view.camera.width() * view.camera.height();
-    let (frame, root) = Frame::new(alloc, pixels, kept.count(), workers)?;
     let plan = Plan {
         survey,
         classes,
@@ -52,7 +51,9 @@ pub fn nearest_words<R: Threads + Sync, B: Beside>(
         kept: &kept,
         camera: &view.camera,
         filter: &view.filter,
+        step: step_for(kept.count()),
     };
+    let (frame, root) = Frame::new(alloc, pixels, plan.pieces(), workers)?;
     match draw_words(alloc, rt, &plan, &frame, root, workers, beside) {
         Ok(root) => Ok(frame.close(root)),
         Err((refusal, _)) => Err(refusal),

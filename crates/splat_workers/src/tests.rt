@@ -215,7 +215,6 @@ fn drawn_by_two<R: Abort + Threads + Sync>(
     let kept = kept(alloc, &view.camera, &blocks)?;
     assert!(rt; kept.count() == 3);
     let pixels = view.camera.width() * view.camera.height();
-    let (frame, root) = Frame::new(alloc, pixels, kept.count(), 2)?;
     let plan = Plan {
         survey,
         classes: &classes,
@@ -223,7 +222,9 @@ fn drawn_by_two<R: Abort + Threads + Sync>(
         kept: &kept,
         camera: &view.camera,
         filter: &view.filter,
+        step: 1,
     };
+    let (frame, root) = Frame::new(alloc, pixels, plan.pieces(), 2)?;
     match draw_words(alloc, rt, &plan, &frame, root, 2, hold) {
         Ok(root) => Ok(frame.close(root)),
         Err((refusal, _)) => Err(refusal),
