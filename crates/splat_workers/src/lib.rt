@@ -9,6 +9,8 @@ mod block;
 mod drawing;
 mod nearest;
 mod piece;
+#[cfg(test)]
+mod piece_tests;
 mod plan;
 #[cfg(test)]
 mod tests;

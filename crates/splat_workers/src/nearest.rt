@@ -9,10 +9,10 @@ use class_pages::Classes;
 use cull_boxes::kept;
 use grid_blocks::Blocks;
 use las_survey::Survey;
-use min_frame::{Frame, MOST_BLOCKS};
+use min_frame::{Frame, FrameWords, MOST_BLOCKS};
 use std::alloc::Global;
 use std::thread::Threads;
-use view_base::{OutOfMemory, Words};
+use view_base::OutOfMemory;
 use view_ends::Beside;
 use view_text::ViewSpec;
 
@@ -30,12 +30,12 @@ pub fn nearest_words<R: Threads + Sync, B: Beside>(
     view: &ViewSpec,
     workers: u32,
     beside: &B,
-) -> Result<Words, OutOfMemory>
+) -> Result<FrameWords, OutOfMemory>
     requires workers { (1 ≤ workers) × (workers ≤ 64) }
     requires records { length classes.now ≡ record_count survey.now }
     requires blocks { IsBlocks survey.now blocks.now }
-    ensures words { IfOk result (λ words. IsFrame survey.now classes.now view.now words.items) }
-    ensures nearest { IfOk result (λ words. NamesNearest survey.now classes.now view.now words.items) }
+    ensures words { IfOk result (λ words. IsFrame survey.now classes.now view.now words) }
+    ensures nearest { IfOk result (λ words. NamesNearest survey.now classes.now view.now words) }
     // So a record's number fits the lower half of a word, and a depth the upper.
     ensures few { OnOk result (record_count survey.now ≤ 53687091) }
     ensures shallow { OnOk result (view.now.camera.far ≤ 2 ^ 32 - 2) }

@@ -8,9 +8,9 @@ use grid_blocks::Blocks;
 use int_camera::Camera;
 use las_survey::Survey;
 
-/// Up to twice as many pieces a picture is cut into before a piece has two blocks: enough for 64
-/// workers to end at about the same time.
-const PIECES: u32 = 8192;
+/// The fewest pieces of a picture whose pieces have several blocks: enough that 64 workers end at
+/// about the same time.
+const FEWEST: u32 = 8192;
 
 /// What is to be drawn: the records of the kept blocks that pass a filter under these classes, as a
 /// camera sees them. Workers claim it by pieces: piece `n` has the kept blocks at the places from
@@ -44,10 +44,10 @@ impl Plan<'_> {
     }
 }
 
-/// How many blocks a piece has where so many are kept: one where they are few, and no more than 1
-/// of 8192 where they are many, so that a claim costs little beside what it draws.
+/// How many blocks a piece has where so many are kept: one where they are few, and where they are
+/// many so many that there are still 8192 pieces. So a claim costs little beside what it draws.
 pub fn step_for(kept: u32) -> u32
     ensures { 1 ≤ result }
 {
-    (kept / PIECES).max(1)
+    (kept / FEWEST).max(1)
 }

@@ -19,7 +19,7 @@ drawn g c =
     let kept = c.in_ok-kept.kept in
     let step = c.step_for.result in
     let root = c.in-Ok.root in
-    let items = c.close.result.items in
+    let items = c.close.result in
     let frame = c.in_ok-frame.ensures.frame in
     let far : view.camera.far < 2 ^ 32 - 1 = omega (arith, c.width.ensures.deepest) in
     let few : record_count b ≤ 2 ^ 32 = omega (arith, c.records.ensures.count, c.records.ensures.small) in
@@ -39,4 +39,4 @@ returns-in-Ok-clause-nearest g c =
     let view = c.args.view.now in
     let far : view.camera.far ≤ 2 ^ 32 - 2 = search (rules, c.width.ensures.deepest, c.view.view_is) in
     let few : record_count b ≤ 2 ^ 32 = omega (arith, c.records.ensures.count, c.records.ensures.small) in
-    frame_names b c.args.classes.now view c.close.result.items (omega (arith, far)) few (drawn g c)
+    frame_names b c.args.classes.now view c.close.result (omega (arith, far)) few (drawn g c)
