@@ -1,8 +1,6 @@
 -- What the rule says once the root is the only seat left.
-use Rattle.std.proofs.Common.{◌≡◌, ℕ, zero, suc, ◌+◌, ◌-◌, ◌^◌, ◌<◌, ◌≤◌, min, true, false, nat_lt, List, [], ◌∷◌, ◌++◌, length, slice_set, slice_index, All, Contains, take, sym, ap, subst, ◌∙◌, arith}
-use Rattle.std.proofs.Math.Seq.{take-append_seam}
+use Rattle.std.proofs.Common.{◌≡◌, ℕ, zero, suc, ◌+◌, ◌-◌, ◌^◌, ◌<◌, ◌≤◌, min, true, false, nat_lt, List, [], ◌∷◌, length, slice_index, All, Contains, sym, ap, subst, ◌∙◌, arith}
 use Rattle.std.proofs.lemmas.Bool.Decides.{nat_tests}
-use Rattle.std.proofs.lemmas.List.{get_or-set_same, get_or-set_other}
 use mathlib.Core.Logic.{dite}
 use mathlib.Core.Option.{some, some-injective, some-ne-none}
 use native.Mathlib.Decide.{ℕ_discrete}
@@ -92,14 +90,3 @@ pub slice_index-get : (xs : List ℕ) (i n : ℕ) → get_elem? xs i ≡ some n 
 slice_index-get [] i n at = absurd (some-ne-none n (sym at))
 slice_index-get (x ∷ xs) zero n at = some-injective x n at
 slice_index-get (x ∷ xs) (suc i) n at = slice_index-get xs i n at
-
--- one more word was copied
-pub copied_more : (xs ys : List ℕ) (i n : ℕ) → i < length xs → get_elem? ys i ≡ some n
-    → ((k : ℕ) → k < i → slice_index xs k ≡ slice_index ys k) → (k : ℕ) → k < i + 1 → slice_index (slice_set xs i n) k ≡ slice_index ys k
-copied_more xs ys i n inside at before k low =
-    dite (ℕ_discrete k i)
-    (λ e. subst (λ j. slice_index (slice_set xs i n) j ≡ slice_index ys j) (sym e) (get_or-set_same xs i n 0 inside ∙ sym (slice_index-get ys i n at)))
-    (λ other. get_or-set_other xs i k n 0 other ∙ before k (omega arith))
-
-pub take-whole : (n : ℕ) (xs ys : List ℕ) → length xs ≡ n → take n (xs ++ ys) ≡ xs
-take-whole n xs ys long = subst (λ k. take k (xs ++ ys) ≡ xs) long (take-append_seam xs ys)

@@ -1,5 +1,6 @@
 pub mod Claiming
 pub mod Closing
+pub mod Crossing
 pub mod Joining
 pub mod Leasts
 pub mod Others

@@ -5,10 +5,11 @@ ghost use Rattle.min_frame.specs.Claimed.{times};
 use crate::rule::{Claim, Cut, Given, Merge, Plot, Rule};
 use crate::seat::Seat;
 use crate::view::{Size, View};
+use crate::words::FrameWords;
 use atomic_table::Table;
 use std::alloc::Global;
 use std::marker::{Brand, Model};
-use view_base::{OutOfMemory, Words};
+use view_base::OutOfMemory;
 
 /// The pixels of the largest picture.
 pub const MOST_PIXELS: u32 = 9_437_184;
@@ -27,21 +28,19 @@ const EMPTY: u64 = u64::MAX;
 #[derive(Drop)]
 pub struct Frame {
     table: Table<(), View, Size, Rule, Global>,
-    /// The room of the words that `close` gives.
-    room: Vec<u64>,
     pixels: u32,
     blocks: u32,
 }
 
 impl Model for Frame {
-    ghost use Rattle.std.specs.Prelude.{◌≡◌, ◌+◌, vec_len};
+    ghost use Rattle.std.specs.Prelude.{◌≡◌, ◌+◌};
     ghost use Rattle.min_frame.specs.Meaning.{Framed};
 
     ghost Value = { Framed };
 
     ghost view = { λ f. record { name = f.table.shared.table_id; pixels = f.pixels; blocks = f.blocks; ends = f.table.shared.key.ends } };
 
-    ghost invariant = { λ f. (f.table.shared.table_id.words ≡ f.pixels + 1) × (f.table.shared.table_id.slots ≡ 0) × (f.table.shared.key.pixels ≡ f.pixels) × (f.table.shared.key.blocks ≡ f.blocks) × (vec_len f.room ≡ f.pixels) };
+    ghost invariant = { λ f. (f.table.shared.table_id.words ≡ f.pixels + 1) × (f.table.shared.table_id.slots ≡ 0) × (f.table.shared.key.pixels ≡ f.pixels) × (f.table.shared.key.blocks ≡ f.blocks) };
 }
 
 impl Frame {
@@ -60,18 +59,16 @@ impl Frame {
         ensures frame { IfOk result (λ r. (r.0.pixels ≡ pixels) × (r.0.blocks ≡ blocks) × (r.0.ends ≡ ends)) }
         ensures seat { IfOk result (λ r. r.1 ≡ record { frame = r.0.name; plots = []; claims = []; ends = ends; root = true; out = 0 }) }
     {
-        let mut room = vec![in alloc; EMPTY; pixels as usize + 1]?;
-        room[pixels as usize] = 0;
+        let mut words = vec![in alloc; EMPTY; pixels as usize + 1]?;
+        words[pixels as usize] = 0;
         let size = Size {
             pixels,
             blocks,
             ends,
         };
-        let (table, inner) = Table::of_words(alloc, room.as_slice(), &size)?;
-        room.pop();
+        let (table, inner) = Table::of_words(alloc, words.as_slice(), &size)?;
         let frame = Frame {
             table,
-            room,
             pixels,
             blocks,
         };
@@ -129,27 +126,21 @@ impl Frame {
 
     /// The words of the pixels, once every seat is joined: each is the least value plotted on its
     /// pixel, or 2^64 - 1 where there is none. Takes no memory.
-    pub fn close(self, root: Seat) -> Words
+    pub fn close(self, root: Seat) -> FrameWords
         requires frame { root.frame ≡ self.name }
         requires root { root.root ≡ true }
         requires out { root.out ≡ 0 }
-        ensures pixels { length result.items ≡ self.pixels }
-        ensures least { EachIndex result.items (λ x. slice_index result.items x ≡ least root.plots x) }
+        ensures pixels { length result ≡ self.pixels }
+        ensures least { EachIndex result (λ x. slice_index result x ≡ least root.plots x) }
         ensures once { (n : ℕ) → times n root.claims ≤ 1 }
         ensures below { All (λ n. n < self.blocks) root.claims }
         ensures all { root.ends < self.ends → (n : ℕ) → n < self.blocks → Contains root.claims n }
     {
-        let Frame {
-            table,
-            mut room,
-            ..
-        } = self;
-        let closed = table.close_with(root.inner);
-        for (x, word) in room.iter_mut().enumerate() {
-            *word = closed.word(x);
+        let Frame { table, pixels, .. } = self;
+        FrameWords {
+            closed: table.close_with(root.inner),
+            pixels,
         }
-        closed.free();
-        Words::from_vec(room)
     }
 }
 

@@ -10,6 +10,8 @@ mod seat;
 #[cfg(test)]
 mod tests;
 mod view;
+mod words;
 
 pub use frame::{Frame, MOST_BLOCKS, MOST_ENDS, MOST_PIXELS};
 pub use seat::Seat;
+pub use words::FrameWords;

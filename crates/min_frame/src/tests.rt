@@ -2,6 +2,7 @@ ghost use Rattle.std.specs.Prelude.{◌≡◌, ◌<◌, ◌≤◌, length};
 
 use crate::frame::Frame;
 use crate::seat::Seat;
+use crate::words::FrameWords;
 use std::mem::size_of;
 use std::process::Abort;
 use std::test::Fail;
@@ -23,9 +24,16 @@ fn two_seats_share_three_numbers_and_the_lower_plot_stays(rt: HostRuntime) -> Re
     frame.join(&mut root, worker);
     let words = frame.close(root);
     assert!(rt; [first, second, third] == [0, 1, 2] && past == [None, None]);
-    assert!(rt; words.as_slice() == [4, u64::MAX].as_slice());
+    assert!(rt; words.len() == 2 && read_both(&rt, &words) == (4, u64::MAX));
     assert!(rt; size_of::<Seat>() == 0);
     Ok(())
+}
+
+/// Two words, each read by a thread of its own.
+fn read_both<R: Threads>(rt: &R, words: &FrameWords) -> (u64, u64)
+    requires { length words.now ≡ 2 }
+{
+    join_mut(rt, &mut || words.word(0), &mut || words.word(1))
 }
 
 /// A number that is there to be claimed.
@@ -54,10 +62,23 @@ fn halves_that_run_side_by_side_leave_the_least_of_all_plots(rt: HostRuntime) ->
         let mut least = vec![in rt.alloc(); u64::MAX; pixels as usize]?;
         lower_all(least.as_mut_slice(), 0, pixels);
         lower_all(least.as_mut_slice(), 1, pixels);
-        assert!(rt; words.as_slice() == least.as_slice());
+        assert!(rt; are(&words, least.as_slice()));
         assert!(rt; one.wrapping_add(two) == u64::from(blocks) * u64::from(blocks - 1) / 2);
     }
     Ok(())
+}
+
+/// Whether these are the frame's words.
+fn are(words: &FrameWords, wanted: &[u64]) -> bool {
+    if words.len() != wanted.len() {
+        return false;
+    }
+    for (pixel, word) in wanted.iter().enumerate() {
+        if words.word(pixel) != *word {
+            return false;
+        }
+    }
+    true
 }
 
 /// Lowers plain words by the plots of a half.
