@@ -1,6 +1,6 @@
 -- The one row whose words fit, and the row that words begin.
-use Rattle.std.proofs.Common.{◌≡◌, ℕ, List, [], ◌∷◌, Bool, Option, Some, None, sym, ◌∙◌, subst}
-use Rattle.view_words.specs.CommandLine.{IsLine, all_rows, badword, row_in, view_words}
+use Rattle.std.proofs.Common.{◌≡◌, ℕ, List, [], ◌∷◌, Bool, Option, Some, None, drop, sym, ◌∙◌, subst}
+use Rattle.view_words.specs.CommandLine.{IsLine, all_rows, badword, row_in}
 use Rattle.view_words.specs.declared.row.Row.{Row}
 use Rattle.view_words.specs.declared.row.Row.TheVariants.{Draw, Info, Trial}
 use Rattle.view_words.proofs.Refusals.{row_in-line, badword-row, badword-unbegun}
@@ -66,7 +66,7 @@ row-refused tells old new ws ended row at bad at_once = record {
 pub row-draw : (tells : Bool) (old new : Said) (ws : List (List ℕ)) (is : status.Status) (ended : Ended) → ended.status ≡ is → IsNothing ended.told → AnswersDraw tells old new ws is → RunsRow Draw tells old new ws ended
 row-draw tells old new ws is ended same nothing answered = record {
   refused = λ at bad. let refused = answered.refused at bad in (same ∙ refused.0, refused.1, nothing);
-  line = λ line. (subst (λ (s : status.Status). DrawsView tells old new ws (fitting_view (view_words ws)) s) (sym same) (answered.line line), nothing);
+  line = λ line. (subst (λ (s : status.Status). DrawsView tells old new ws (fitting_view (drop 4 ws)) s) (sym same) (answered.line line), nothing);
 }
 
 -- an `info`

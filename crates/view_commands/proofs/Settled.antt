@@ -16,7 +16,7 @@ use Rattle.view_commands.specs.declared.places.TheConstants.{JOURNAL, INPUT}
 use Rattle.view_commands.specs.declared.status.Status as status
 use Rattle.view_commands.specs.declared.status.Status.TheVariants as state
 use Rattle.view_commands.specs.declared.told.Ended as told
-use Rattle.view_commands.specs.Run.{input, output, HasPair, IsCalm, KeptSo, RunsSession, RunsSessions, NotOpened, first_fault, first_status, status_at}
+use Rattle.view_commands.specs.Run.{input, output, HasPair, IsCalm, KeptSo, RunsSession, RunsSessions, NotOpened, first_fault, status_at}
 use Rattle.view_commands.specs.Texts.{KeepsText}
 use Rattle.view_commands.proofs.Lists.{at-within, below, map_slice_get, slice_get-map}
 
@@ -31,7 +31,7 @@ quiet-first : (at : ℕ) (reasons : List reason.Reason) (last : status.Status) �
 quiet-first at [] last each rest = rest
 quiet-first at (one ∷ others) last each rest = first one (each 0 one refl) (quiet-first (at + 2) others last (λ k other is. each (suc k) other is) rest)
   where
-    first : (one : reason.Reason) → IsQuiet one → EndsQuiet (first_fault (at + 2) others last) → EndsQuiet (first_status (status_at at (at + 1) one) (first_fault (at + 2) others last))
+    first : (one : reason.Reason) → IsQuiet one → EndsQuiet (first_fault (at + 2) others last) → EndsQuiet (first_fault at (one ∷ others) last)
     first Finished quiet later = later
     first Memory quiet later = inr refl
     first ReadFault (inl is) later = absurd (cc is)

@@ -1,6 +1,6 @@
 -- What the program does for the words of its command line; and what a `serve` gives: what each of its sessions did, what
 -- became of the journal, and why it gives up.
-use Rattle.std.specs.Prelude.{◌≡◌, ◌≢◌, ℕ, ◌+◌, ◌*◌, ◌<◌, ◌≤◌, ◌⊎◌, Bool, IsTrue, List, [], ◌∷◌, ◌++◌, length, map, slice_get, Option, Some, None, IsSome, All}
+use Rattle.std.specs.Prelude.{◌≡◌, ◌≢◌, ℕ, ◌+◌, ◌*◌, ◌<◌, ◌≤◌, ◌⊎◌, Bool, IsTrue, List, [], ◌∷◌, ◌++◌, length, drop, map, slice_get, Option, Some, None, IsSome, All}
 use Rattle.std.specs.List.{flat_map}
 use Rattle.edit_ops.specs.EditLine.{canonical}
 use Rattle.sessions.specs.declared.serving.TheConstants.{INPUT_LIMIT}
@@ -22,7 +22,7 @@ use Rattle.view_commands.specs.declared.told.Ended.{Ended}
 use Rattle.view_commands.specs.declared.told.Told.{Told}
 use Rattle.view_commands.specs.Texts.{IsReadWhole, NoSurvey, KeepsText, SettlesFile, DrawsView, MakesText}
 use Rattle.survey_info.specs.Text.{info_text}
-use Rattle.view_words.specs.CommandLine.{all_rows, badword, IsLine, view_words}
+use Rattle.view_words.specs.CommandLine.{all_rows, badword, IsLine}
 use Rattle.view_text.specs.ViewWords.{fitting_view}
 use Rattle.view_words.specs.declared.row.Row as row
 use Rattle.view_words.specs.declared.row.Row.TheVariants.{Draw, Info, Trial, Serve}
@@ -51,16 +51,12 @@ status_at read written why.SessionLimit = SessionLimit read
 status_at read written why.WriteFault = WriteFault written
 status_at read written why.Memory = Memory
 
--- the first status, where it is not that all was done, and else the second
-abbrev pub first_status : status.Status → status.Status → status.Status
-first_status Done second = second
-first_status first second = first
-
 -- the status of the first of these reasons that is one of a fault, where the names of the first of them stand at this
 -- place and the next one, those of the second at the two places after them, and so on; where there is none, the last
 abbrev pub first_fault : ℕ → List reason.Reason → status.Status → status.Status
 first_fault at [] last = last
-first_fault at (why ∷ others) last = first_status (status_at at (at + 1) why) (first_fault (at + 2) others last)
+first_fault at (why.Finished ∷ others) last = first_fault (at + 2) others last
+first_fault at (fault ∷ others) last = status_at at (at + 1) fault
 
 -- a command told nothing of sessions
 abbrev pub IsNothing : Told → Type 0
@@ -157,9 +153,10 @@ pub record ServesLine (tells : Bool) (old new : Said) (ws : List (List ℕ)) (en
   -- and the status where nothing outside failed
   pub settled : SettlesFile tells old new (word_at ws SURVEY) (λ b. None) (((k : ℕ) → HasPair ws k → IsCalm old new ws k) × (Rose (old.writes (word_at ws JOURNAL)) (new.writes (word_at ws JOURNAL)) → ⊥)) ended.status
 
--- the command of a row whose words fit; one without sessions tells nothing beside its status
+-- the command of a row whose words fit; one without sessions tells nothing beside its status. The words of the view of a
+-- `draw` stand from place 4 on
 abbrev pub RunsLine : row.Row → Bool → Said → Said → List (List ℕ) → Ended → Type 0
-RunsLine Draw tells old new ws ended = DrawsView tells old new ws (fitting_view (view_words ws)) ended.status × IsNothing ended.told
+RunsLine Draw tells old new ws ended = DrawsView tells old new ws (fitting_view (drop 4 ws)) ended.status × IsNothing ended.told
 RunsLine Info tells old new ws ended = MakesText tells old new (word_at ws 1) (word_at ws 2) (λ b. None) info_text ended.status × IsNothing ended.told
 RunsLine Trial tells old new ws ended = TriesLine tells old new ws ended.status × IsNothing ended.told
 RunsLine Serve tells old new ws ended = ServesLine tells old new ws ended
