@@ -1,5 +1,5 @@
 -- The classes after one more edit.
-use Rattle.std.specs.Prelude.{◌≡◌, ℕ, ◌+◌, ◌<◌, if◌then◌else◌, List, map, length, slice_index}
+use Rattle.std.specs.Prelude.{◌≡◌, ℕ, ◌+◌, ◌<◌, ◌==◌, if◌then◌else◌, List, map, length, slice_index}
 use Rattle.std.specs.List.{range_with_len}
 use Rattle.view_meaning.specs.Survey.{point_of}
 use Rattle.view_meaning.specs.Classes.{Edit, class_after, has}
@@ -7,6 +7,10 @@ use Rattle.view_meaning.specs.Classes.{Edit, class_after, has}
 -- the class after an edit of a record in the edit's area
 abbrev pub class_inside : ℕ → Edit → ℕ
 class_inside class edit = if has edit.from class then edit.to else class
+
+-- how many classes change where a record in the edit's area has this class
+abbrev pub changes_inside : ℕ → Edit → ℕ
+changes_inside class edit = if class_inside class edit == class then 0 else 1
 
 -- the classes of all records after one more edit
 unfoldable pub after_edit : List ℕ → List ℕ → Edit → List ℕ

@@ -1,7 +1,7 @@
-ghost use Rattle.std.specs.Prelude.{◌≡◌, ◌<◌, ◌==◌, if◌then◌else◌, IfOk, OnErr, OnOk, length, slice_index, slice_set};
+ghost use Rattle.std.specs.Prelude.{◌≡◌, ◌<◌, IfOk, OnErr, OnOk, length, slice_index, slice_set};
 ghost use Rattle.std.specs.Arc.{arc_value};
 ghost use Rattle.std.specs.List.{flat_map};
-ghost use Rattle.class_pages.specs.AfterEdit.{class_inside};
+ghost use Rattle.class_pages.specs.AfterEdit.{changes_inside, class_inside};
 ghost use Rattle.class_pages.specs.Drafts.{classes_on};
 ghost use Rattle.class_pages.specs.Pages.{IsPaged};
 
@@ -36,7 +36,7 @@ impl DraftPage {
     fn change(&mut self, alloc: Global, place: usize, edit: &Edit) -> Result<u64, OutOfMemory>
         requires { place < length (classes_on self.old) }
         ensures made { OnOk result (classes_on self.new ≡ slice_set (classes_on self.old) place (class_inside (slice_index (classes_on self.old) place) edit.now)) }
-        ensures count { IfOk result (λ changed. changed ≡ (if class_inside (slice_index (classes_on self.old) place) edit.now == slice_index (classes_on self.old) place then 0 else 1)) }
+        ensures count { IfOk result (λ changed. changed ≡ changes_inside (slice_index (classes_on self.old) place) edit.now) }
         ensures byte { class_inside (slice_index (classes_on self.old) place) edit.now < 256 }
         ensures refused { OnErr result (self.new ≡ self.old) }
     {
@@ -56,7 +56,7 @@ impl DraftPage {
     ) -> Result<u64, OutOfMemory>
         requires { place < length (classes_on self.old) }
         ensures made { OnOk result (classes_on self.new ≡ slice_set (classes_on self.old) place (class_inside (slice_index (classes_on self.old) place) edit.now)) }
-        ensures count { IfOk result (λ changed. changed ≡ (if class_inside (slice_index (classes_on self.old) place) edit.now == slice_index (classes_on self.old) place then 0 else 1)) }
+        ensures count { IfOk result (λ changed. changed ≡ changes_inside (slice_index (classes_on self.old) place) edit.now) }
         ensures byte { class_inside (slice_index (classes_on self.old) place) edit.now < 256 }
         ensures refused { OnErr result (self.new ≡ self.old) }
     {
@@ -128,7 +128,7 @@ impl Draft {
     pub(crate) fn change(&mut self, alloc: Global, i: u32, edit: &Edit) -> Result<u64, OutOfMemory>
         requires { i < length self.old }
         ensures made { OnOk result (self.new ≡ slice_set self.old i (class_inside (slice_index self.old i) edit.now)) }
-        ensures count { IfOk result (λ changed. changed ≡ (if class_inside (slice_index self.old i) edit.now == slice_index self.old i then 0 else 1)) }
+        ensures count { IfOk result (λ changed. changed ≡ changes_inside (slice_index self.old i) edit.now) }
     {
         self.pages[i as usize / PAGE].change(alloc, i as usize % PAGE, edit)
     }

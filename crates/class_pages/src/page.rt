@@ -1,6 +1,6 @@
-ghost use Rattle.std.specs.Prelude.{◌≡◌, ℕ, ◌+◌, ◌<◌, ◌≤◌, ◌^◌, ◌==◌, if◌then◌else◌, IfOk, IfSome, IfNone, List, [], length, take, drop, slice_index, slice_set};
+ghost use Rattle.std.specs.Prelude.{◌≡◌, ℕ, ◌+◌, ◌<◌, ◌≤◌, ◌^◌, IfOk, IfSome, IfNone, List, [], length, take, drop, slice_index, slice_set};
 ghost use Rattle.std.specs.Arc.{arc_value};
-ghost use Rattle.class_pages.specs.AfterEdit.{IsAfter, IsSame, class_inside};
+ghost use Rattle.class_pages.specs.AfterEdit.{IsAfter, IsSame, changes_inside, class_inside};
 ghost use Rattle.class_pages.specs.Fitting.{EachFits};
 ghost use Rattle.view_meaning.specs.Classes as meaning;
 ghost use Rattle.view_meaning.specs.Survey.{record_count, format_of, point_of};
@@ -53,7 +53,7 @@ impl Page {
     pub(crate) fn change(&mut self, place: usize, edit: &Edit) -> u64
         requires { place < length self.old }
         ensures made { self.new ≡ slice_set self.old place (class_inside (slice_index self.old place) edit.now) }
-        ensures count { result ≡ (if class_inside (slice_index self.old place) edit.now == slice_index self.old place then 0 else 1) }
+        ensures count { result ≡ changes_inside (slice_index self.old place) edit.now }
         ensures byte { class_inside (slice_index self.old place) edit.now < 256 }
     {
         let class = self.list[place];
