@@ -44,7 +44,8 @@ fn count_classes(filter: &FilterTable, run: &[u8]) -> u32
 fn count_shown(survey: &Survey, filter: &FilterTable, run: &[u8], first: u32) -> u32
     requires within { first + length run.now ≤ record_count survey.now }
     requires small { first + length run.now < 2 ^ 32 }
-    ensures counted { result ≡ count_by (record_passes survey.now filter.now run.now first) (range_with_len 0 (length run.now)) }
+    ensures counted { result
+        ≡ count_by (record_passes survey.now filter.now run.now first) (range_with_len 0 (length run.now)) }
     ensures few { result ≤ length run.now }
 {
     let mut passing = 0;

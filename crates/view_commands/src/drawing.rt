@@ -143,7 +143,8 @@ fn blocks_and_classes<R: Threads + Sync>(
             ensures { IfOk result (IsBlocks survey.entry.now) }
         { build_by_number(alloc, survey) },
         || -> Result<Classes, OutOfMemory>
-            ensures { IfOk result (λ made. (made ≡ classes survey.entry.now []) × (length made ≡ record_count survey.entry.now)) }
+            ensures { IfOk result (λ made. (made ≡ classes survey.entry.now [])
+                × (length made ≡ record_count survey.entry.now)) }
         { base(alloc, survey) },
     );
     Ok((blocks?, classes?))

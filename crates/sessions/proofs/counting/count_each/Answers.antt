@@ -1,4 +1,4 @@
-use Rattle.std.proofs.Common.{◌+◌, length, arith, refl}
+use Rattle.std.proofs.Common.{length, arith, refl}
 use Rattle.view_meaning.specs.Classes.{passes}
 use Rattle.sessions.proofs.Counted.{counted_both}
 use Rattle.sessions.proofs.counting.count_each.Goals as goal
