@@ -1,9 +1,10 @@
 -- The least values of the pairs of all kept blocks are the frame's words.
-use Rattle.std.proofs.Common.{◌≡◌, ℕ, ◌+◌, ◌*◌, ◌-◌, ◌^◌, ◌<◌, ◌≤◌, ◌==◌, ◌&&◌, ◌⊎◌, inl, inr, List, [], ◌∷◌, length, get_or, Option, Some, None, Bool, true, false, if◌then◌else◌, slice_index, refl, sym, subst, ◌∙◌, ap, arith}
+use Rattle.std.proofs.Common.{◌≡◌, ℕ, ◌+◌, ◌*◌, ◌/◌, ◌-◌, ◌^◌, ◌<◌, ◌≤◌, ◌==◌, ◌&&◌, ◌⊎◌, inl, inr, List, [], ◌∷◌, length, get_or, Option, Some, None, Bool, true, false, if◌then◌else◌, slice_index, refl, sym, subst, ◌∙◌, ap, arith}
 use Rattle.std.proofs.lemmas.Bool.Decides.{nat_tests}
 use Rattle.std.proofs.lemmas.List.{get_or_default}
 use Rattle.std.proofs.lemmas.List.Elements.{All-contains}
 use Rattle.std.specs.Prelude.{slice_get, is_some, EachIndex}
+use Rattle.std.specs.Int.{div_ceil}
 use Rattle.std.specs.List.{Contains, flat_map}
 use Rattle.view_meaning.specs.Survey.{record_count, point_of}
 use Rattle.view_meaning.specs.Classes.{Filter, passes}
@@ -20,9 +21,10 @@ use Rattle.cull_boxes.specs.Kept.{HasEachInView}
 use Rattle.cull_boxes.proofs.Laws.{kept_member}
 use Rattle.min_frame.specs.Least.{least}
 use Rattle.min_frame.proofs.Leasts.{least-le}
-use Rattle.splat_workers.specs.Drawing.{SamePairs}
+use Rattle.splat_workers.specs.Drawing.{SamePairs, piece_blocks}
 use Rattle.splat_workers.specs.Pairs.{pair_at, pair_of, members_in, block_pairs}
 use Rattle.splat_workers.proofs.Blocks.{block_pairs-part, part_below}
+use Rattle.splat_workers.proofs.Pieces.{kept-piece}
 use Rattle.splat_workers.proofs.Least.{least-at_most, least-at_least, contains-flat_map, flat_map-contains}
 
 -- a pair of record i: the record passes, and is on a spot with this pixel and depth
@@ -71,13 +73,14 @@ block_pairs-only b cs lens filter blocked k p are has =
 in_view : (lens : Lens) (b : List ℕ) (i : ℕ) (s : Spot) → spot lens (point_of b i) ≡ Some s → is_some (spot lens (point_of b i)) ≡ true
 in_view lens b i s falls = ap is_some falls
 
--- the pairs of all kept blocks are those of the records in view
-all_kept : (b cs : List ℕ) (view : View) (blocked : Blocked) (kept claims : List ℕ) (plots : List (ℕ × ℕ)) → IsBlocks b blocked → HasEachInView view.camera blocked.blocks kept
-    → ((n : ℕ) → n < length kept → Contains claims n) → SamePairs plots (flat_map (λ k. block_pairs b cs view.camera view.filter blocked (slice_index kept k)) claims) → HasPairs b cs view plots
-all_kept b cs view blocked kept claims plots are has all same = record {
+-- the pairs of all pieces are those of the records in view
+all_kept : (b cs : List ℕ) (view : View) (blocked : Blocked) (kept claims : List ℕ) (step : ℕ) (plots : List (ℕ × ℕ)) → IsBlocks b blocked → HasEachInView view.camera blocked.blocks kept → 1 ≤ step
+    → ((n : ℕ) → n < div_ceil (length kept) step → Contains claims n) → SamePairs plots (flat_map (λ n. flat_map (block_pairs b cs view.camera view.filter blocked) (piece_blocks kept step n)) claims) → HasPairs b cs view plots
+all_kept b cs view blocked kept claims step plots are has some all same = record {
   only = λ p there.
-      let found = flat_map-contains (λ k. block_pairs b cs view.camera view.filter blocked (slice_index kept k)) claims p ((same p).0 there) in
-      block_pairs-only b cs view.camera view.filter blocked (slice_index kept found.0) p are found.2;
+      let piece = flat_map-contains (λ n. flat_map (block_pairs b cs view.camera view.filter blocked) (piece_blocks kept step n)) claims p ((same p).0 there) in
+      let found = flat_map-contains (block_pairs b cs view.camera view.filter blocked) (piece_blocks kept step piece.0) p piece.2 in
+      block_pairs-only b cs view.camera view.filter blocked found.0 p are found.2;
   each = λ i s lt passing falls.
       let found = kept_member b view.camera blocked kept i are has lt (in_view view.camera b i s falls) in
       let k : ℕ = found.0 in
@@ -91,7 +94,9 @@ all_kept b cs view blocked kept claims plots are has all same = record {
       let in_block : Contains (block_pairs b cs view.camera view.filter blocked (slice_index kept n)) p =
       subst (λ (m : ℕ). Contains (block_pairs b cs view.camera view.filter blocked m) p) (sym at)
       (subst (λ l. Contains l p) (block_pairs-part b cs view.camera view.filter blocked k block (part block blocked.members) found.3 refl) inside) in
-      (same p).1 (contains-flat_map (λ k. block_pairs b cs view.camera view.filter blocked (slice_index kept k)) claims n p (all n within) in_block);
+      let piece = kept-piece kept step n some within in
+      let in_piece = contains-flat_map (block_pairs b cs view.camera view.filter blocked) (piece_blocks kept step (n / step)) (slice_index kept n) p piece.1 in_block in
+      (same p).1 (contains-flat_map (λ n. flat_map (block_pairs b cs view.camera view.filter blocked) (piece_blocks kept step n)) claims (n / step) p (all (n / step) piece.0) in_piece);
 }
 
 -- the record of a pair on a pixel is a candidate there, and its depth stands in the value
@@ -158,14 +163,14 @@ least-word b cs view x y plots (Some i) pairs far few across shows =
     omega (arith, value, order)) in
     omega (arith, high, low)
 
--- the words of a closed frame on which all kept blocks were drawn
-pub words_of_pairs : (b cs : List ℕ) (view : View) (blocked : Blocked) (kept claims words : List ℕ) (plots : List (ℕ × ℕ)) → view.camera.far < 2 ^ 32 - 1 → record_count b ≤ 2 ^ 32
-    → IsBlocks b blocked → HasEachInView view.camera blocked.blocks kept → ((n : ℕ) → n < length kept → Contains claims n)
-    → SamePairs plots (flat_map (λ k. block_pairs b cs view.camera view.filter blocked (slice_index kept k)) claims)
+-- the words of a closed frame on which all pieces were drawn
+pub words_of_pairs : (b cs : List ℕ) (view : View) (blocked : Blocked) (kept claims words : List ℕ) (step : ℕ) (plots : List (ℕ × ℕ)) → view.camera.far < 2 ^ 32 - 1 → record_count b ≤ 2 ^ 32
+    → IsBlocks b blocked → HasEachInView view.camera blocked.blocks kept → 1 ≤ step → ((n : ℕ) → n < div_ceil (length kept) step → Contains claims n)
+    → SamePairs plots (flat_map (λ n. flat_map (block_pairs b cs view.camera view.filter blocked) (piece_blocks kept step n)) claims)
     → length words ≡ view.camera.width * view.camera.height → EachIndex words (λ x. slice_index words x ≡ least plots x) → IsFrame b cs view words
-words_of_pairs b cs view blocked kept claims words plots far few are has all same size each = record {
+words_of_pairs b cs view blocked kept claims words step plots far few are has some all same size each = record {
   size = size;
   each = λ x y across down.
       each (y * view.camera.width + x) (subst (λ (n : ℕ). y * view.camera.width + x < n) (sym size) (place_below x y view.camera.width view.camera.height across down))
-      ∙ least-word b cs view x y plots (nearest b cs view x y) (all_kept b cs view blocked kept claims plots are has all same) far few across (nearest_shows b cs view x y);
+      ∙ least-word b cs view x y plots (nearest b cs view x y) (all_kept b cs view blocked kept claims step plots are has some all same) far few across (nearest_shows b cs view x y);
 }

@@ -1,4 +1,5 @@
 pub mod Blocks
 pub mod Law
 pub mod Least
+pub mod Pieces
 pub mod Plotting

@@ -12,7 +12,7 @@ pub record IsReady (frame : TableId) (seat : Seated) : Type 0 where
   pub claims : seat.claims ≡ []
   pub ends : seat.ends ≡ 1
 
--- a seat of a frame that plotted the pairs of the blocks that it claimed, and found nothing left
+-- a seat of a frame that plotted the pairs of the pieces that it claimed, and found nothing left
 pub record HasDrawn (plan : Plan) (frame : TableId) (seat : Seated) : Type 0 where
   pub of_frame : seat.frame ≡ frame
   pub plots : seat.plots ≡ claimed_pairs plan seat.claims

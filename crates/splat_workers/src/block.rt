@@ -17,81 +17,110 @@ use las_points::{withheld, xyz};
 use min_frame::{Frame, Seat};
 use view_base::Point;
 
-/// Plots the records of block `k` that pass the plan's filter and are in view.
-pub(crate) fn draw_block(plan: &Plan, frame: &Frame, seat: &mut Seat, k: u32)
+/// Plots the records of block `k` that pass the plan's filter and are in view, among the plots that
+/// wait.
+pub(crate) fn draw_block(plan: &Plan, frame: &Frame, seat: &mut Seat, batch: &mut Batch, k: u32)
     requires records { length plan.now.classes.now ≡ record_count plan.now.survey.now }
     requires blocks { IsBlocks plan.now.survey.now plan.now.blocks.now }
     requires block { k < length plan.now.blocks.now.blocks }
     requires frame { seat.old.frame ≡ frame.now.name }
+    requires waits { batch.old.pixels ≡ frame.now.pixels }
     requires pixels { frame.now.pixels ≡ plan.now.camera.now.width * plan.now.camera.now.height }
-    ensures { seat.new ≡ record seat.old { plots = seat.old.plots ++ block_pairs plan.now.survey.now plan.now.classes.now plan.now.camera.now plan.now.filter.now plan.now.blocks.now k } }
+    ensures drawn { drawn seat.new batch.new ≡ record (drawn seat.old batch.old) { plots = (seat.old.plots ++ batch.old.plots) ++ block_pairs plan.now.survey.now plan.now.classes.now plan.now.camera.now plan.now.filter.now plan.now.blocks.now k } }
+    ensures frame { seat.new.frame ≡ seat.old.frame }
+    ensures waits { batch.new.pixels ≡ batch.old.pixels }
 {
     match plan.blocks.records(k) {
-        Some(records) => draw_copied(plan, frame, seat, &records),
+        Some(records) => draw_copied(plan, frame, seat, batch, &records),
         None => {
             let block = plan.blocks.block(k);
-            draw_numbered(plan, frame, seat, block.first, block.count);
+            draw_numbered(plan, frame, seat, batch, block.first, block.count);
         }
     }
 }
 
 /// Plots the records of a block that lie in memory one after another.
-fn draw_copied(plan: &Plan, frame: &Frame, seat: &mut Seat, records: &BlockRecords)
+fn draw_copied(
+    plan: &Plan,
+    frame: &Frame,
+    seat: &mut Seat,
+    batch: &mut Batch,
+    records: &BlockRecords,
+)
     requires records { length plan.now.classes.now ≡ record_count plan.now.survey.now }
     requires numbers { All (λ number. number < record_count plan.now.survey.now) records.now.numbers.now }
     requires points { records.now.points.now ≡ map (point_of plan.now.survey.now) records.now.numbers.now }
     requires withheld { records.now.withheld.now ≡ map (withheld_of plan.now.survey.now) records.now.numbers.now }
     requires frame { seat.old.frame ≡ frame.now.name }
+    requires waits { batch.old.pixels ≡ frame.now.pixels }
     requires pixels { frame.now.pixels ≡ plan.now.camera.now.width * plan.now.camera.now.height }
-    ensures { seat.new ≡ record seat.old { plots = seat.old.plots ++ flat_map (pair_of plan.now.survey.now plan.now.classes.now plan.now.camera.now plan.now.filter.now) records.now.numbers.now } }
+    ensures drawn { drawn seat.new batch.new ≡ record (drawn seat.old batch.old) { plots = (seat.old.plots ++ batch.old.plots) ++ flat_map (pair_of plan.now.survey.now plan.now.classes.now plan.now.camera.now plan.now.filter.now) records.now.numbers.now } }
+    ensures frame { seat.new.frame ≡ seat.old.frame }
+    ensures waits { batch.new.pixels ≡ batch.old.pixels }
 {
     if lets_all_pass(plan.filter) {
-        plot_each(plan, frame, seat, records.numbers, records.points);
+        plot_each(plan, frame, seat, batch, records.numbers, records.points);
     } else {
-        plot_passing(plan, frame, seat, records);
+        plot_passing(plan, frame, seat, batch, records);
     }
 }
 
 /// Plots the records of these numbers, which stand at these points, where the plan's filter lets
 /// all pass.
-fn plot_each(plan: &Plan, frame: &Frame, seat: &mut Seat, numbers: &[u32], points: &[Point])
+fn plot_each(
+    plan: &Plan,
+    frame: &Frame,
+    seat: &mut Seat,
+    batch: &mut Batch,
+    numbers: &[u32],
+    points: &[Point],
+)
     requires records { length plan.now.classes.now ≡ record_count plan.now.survey.now }
     requires numbers { All (λ number. number < record_count plan.now.survey.now) numbers.now }
     requires points { points.now ≡ map (point_of plan.now.survey.now) numbers.now }
     requires classes { plan.now.filter.now.classes ≡ all_classes }
     requires withheld { plan.now.filter.now.hide_withheld ≡ false }
     requires frame { seat.old.frame ≡ frame.now.name }
+    requires waits { batch.old.pixels ≡ frame.now.pixels }
     requires pixels { frame.now.pixels ≡ plan.now.camera.now.width * plan.now.camera.now.height }
-    ensures { seat.new ≡ record seat.old { plots = seat.old.plots ++ flat_map (pair_of plan.now.survey.now plan.now.classes.now plan.now.camera.now plan.now.filter.now) numbers.now } }
+    ensures drawn { drawn seat.new batch.new ≡ record (drawn seat.old batch.old) { plots = (seat.old.plots ++ batch.old.plots) ++ flat_map (pair_of plan.now.survey.now plan.now.classes.now plan.now.camera.now plan.now.filter.now) numbers.now } }
+    ensures frame { seat.new.frame ≡ seat.old.frame }
+    ensures waits { batch.new.pixels ≡ batch.old.pixels }
 {
     // A class is a byte, and the set of all classes has each byte.
     prove!(plan.classes.pages() <= u32::MAX);
-    let mut batch = Batch::new(plan.camera.width() * plan.camera.height());
     for place in 0..numbers.len() {
         plot_point(
             frame,
             seat,
-            &mut batch,
+            batch,
             plan.camera,
             points[place],
             numbers[place],
         );
     }
-    batch.flush(frame, seat);
 }
 
 /// Plots those of a block's records that pass the plan's filter.
-fn plot_passing(plan: &Plan, frame: &Frame, seat: &mut Seat, records: &BlockRecords)
+fn plot_passing(
+    plan: &Plan,
+    frame: &Frame,
+    seat: &mut Seat,
+    batch: &mut Batch,
+    records: &BlockRecords,
+)
     requires records { length plan.now.classes.now ≡ record_count plan.now.survey.now }
     requires numbers { All (λ number. number < record_count plan.now.survey.now) records.now.numbers.now }
     requires points { records.now.points.now ≡ map (point_of plan.now.survey.now) records.now.numbers.now }
     requires withheld { records.now.withheld.now ≡ map (withheld_of plan.now.survey.now) records.now.numbers.now }
     requires frame { seat.old.frame ≡ frame.now.name }
+    requires waits { batch.old.pixels ≡ frame.now.pixels }
     requires pixels { frame.now.pixels ≡ plan.now.camera.now.width * plan.now.camera.now.height }
-    ensures { seat.new ≡ record seat.old { plots = seat.old.plots ++ flat_map (pair_of plan.now.survey.now plan.now.classes.now plan.now.camera.now plan.now.filter.now) records.now.numbers.now } }
+    ensures drawn { drawn seat.new batch.new ≡ record (drawn seat.old batch.old) { plots = (seat.old.plots ++ batch.old.plots) ++ flat_map (pair_of plan.now.survey.now plan.now.classes.now plan.now.camera.now plan.now.filter.now) records.now.numbers.now } }
+    ensures frame { seat.new.frame ≡ seat.old.frame }
+    ensures waits { batch.new.pixels ≡ batch.old.pixels }
 {
     let numbers = records.numbers;
-    let mut batch = Batch::new(plan.camera.width() * plan.camera.height());
     for place in 0..numbers.len() {
         let number = numbers[place];
         let class = plan.classes.class_at(number);
@@ -99,14 +128,13 @@ fn plot_passing(plan: &Plan, frame: &Frame, seat: &mut Seat, records: &BlockReco
             plot_point(
                 frame,
                 seat,
-                &mut batch,
+                batch,
                 plan.camera,
                 records.points[place],
                 number,
             );
         }
     }
-    batch.flush(frame, seat);
 }
 
 /// Plots the record of a number where it stands in the camera's picture: among those that wait, or
@@ -142,59 +170,85 @@ fn lets_all_pass(filter: &Filter) -> bool
 }
 
 /// Plots the records of so many numbers from a first one on.
-fn draw_numbered(plan: &Plan, frame: &Frame, seat: &mut Seat, first: u32, count: u32)
+fn draw_numbered(
+    plan: &Plan,
+    frame: &Frame,
+    seat: &mut Seat,
+    batch: &mut Batch,
+    first: u32,
+    count: u32,
+)
     requires records { length plan.now.classes.now ≡ record_count plan.now.survey.now }
     requires numbers { first + count ≤ record_count plan.now.survey.now }
     requires small { first + count < 2 ^ 32 }
     requires frame { seat.old.frame ≡ frame.now.name }
+    requires waits { batch.old.pixels ≡ frame.now.pixels }
     requires pixels { frame.now.pixels ≡ plan.now.camera.now.width * plan.now.camera.now.height }
-    ensures { seat.new ≡ record seat.old { plots = seat.old.plots ++ flat_map (pair_of plan.now.survey.now plan.now.classes.now plan.now.camera.now plan.now.filter.now) (range_with_len first count) } }
+    ensures drawn { drawn seat.new batch.new ≡ record (drawn seat.old batch.old) { plots = (seat.old.plots ++ batch.old.plots) ++ flat_map (pair_of plan.now.survey.now plan.now.classes.now plan.now.camera.now plan.now.filter.now) (range_with_len first count) } }
+    ensures frame { seat.new.frame ≡ seat.old.frame }
+    ensures waits { batch.new.pixels ≡ batch.old.pixels }
 {
     if lets_all_pass(plan.filter) {
-        plot_each_numbered(plan, frame, seat, first, count);
+        plot_each_numbered(plan, frame, seat, batch, first, count);
     } else {
-        plot_passing_numbered(plan, frame, seat, first, count);
+        plot_passing_numbered(plan, frame, seat, batch, first, count);
     }
 }
 
 /// Plots the records of so many numbers, where the plan's filter lets all pass.
-fn plot_each_numbered(plan: &Plan, frame: &Frame, seat: &mut Seat, first: u32, count: u32)
+fn plot_each_numbered(
+    plan: &Plan,
+    frame: &Frame,
+    seat: &mut Seat,
+    batch: &mut Batch,
+    first: u32,
+    count: u32,
+)
     requires records { length plan.now.classes.now ≡ record_count plan.now.survey.now }
     requires numbers { first + count ≤ record_count plan.now.survey.now }
     requires small { first + count < 2 ^ 32 }
     requires classes { plan.now.filter.now.classes ≡ all_classes }
     requires withheld { plan.now.filter.now.hide_withheld ≡ false }
     requires frame { seat.old.frame ≡ frame.now.name }
+    requires waits { batch.old.pixels ≡ frame.now.pixels }
     requires pixels { frame.now.pixels ≡ plan.now.camera.now.width * plan.now.camera.now.height }
-    ensures { seat.new ≡ record seat.old { plots = seat.old.plots ++ flat_map (pair_of plan.now.survey.now plan.now.classes.now plan.now.camera.now plan.now.filter.now) (range_with_len first count) } }
+    ensures drawn { drawn seat.new batch.new ≡ record (drawn seat.old batch.old) { plots = (seat.old.plots ++ batch.old.plots) ++ flat_map (pair_of plan.now.survey.now plan.now.classes.now plan.now.camera.now plan.now.filter.now) (range_with_len first count) } }
+    ensures frame { seat.new.frame ≡ seat.old.frame }
+    ensures waits { batch.new.pixels ≡ batch.old.pixels }
 {
     // A class is a byte, and the set of all classes has each byte.
     prove!(plan.classes.pages() <= u32::MAX);
-    let mut batch = Batch::new(plan.camera.width() * plan.camera.height());
     for number in first..first + count {
         let point = xyz(plan.survey.point_bytes(number));
-        plot_point(frame, seat, &mut batch, plan.camera, point, number);
+        plot_point(frame, seat, batch, plan.camera, point, number);
     }
-    batch.flush(frame, seat);
 }
 
 /// Plots those of the records of so many numbers that pass the plan's filter.
-fn plot_passing_numbered(plan: &Plan, frame: &Frame, seat: &mut Seat, first: u32, count: u32)
+fn plot_passing_numbered(
+    plan: &Plan,
+    frame: &Frame,
+    seat: &mut Seat,
+    batch: &mut Batch,
+    first: u32,
+    count: u32,
+)
     requires records { length plan.now.classes.now ≡ record_count plan.now.survey.now }
     requires numbers { first + count ≤ record_count plan.now.survey.now }
     requires small { first + count < 2 ^ 32 }
     requires frame { seat.old.frame ≡ frame.now.name }
+    requires waits { batch.old.pixels ≡ frame.now.pixels }
     requires pixels { frame.now.pixels ≡ plan.now.camera.now.width * plan.now.camera.now.height }
-    ensures { seat.new ≡ record seat.old { plots = seat.old.plots ++ flat_map (pair_of plan.now.survey.now plan.now.classes.now plan.now.camera.now plan.now.filter.now) (range_with_len first count) } }
+    ensures drawn { drawn seat.new batch.new ≡ record (drawn seat.old batch.old) { plots = (seat.old.plots ++ batch.old.plots) ++ flat_map (pair_of plan.now.survey.now plan.now.classes.now plan.now.camera.now plan.now.filter.now) (range_with_len first count) } }
+    ensures frame { seat.new.frame ≡ seat.old.frame }
+    ensures waits { batch.new.pixels ≡ batch.old.pixels }
 {
     let format = plan.survey.header().format;
-    let mut batch = Batch::new(plan.camera.width() * plan.camera.height());
     for number in first..first + count {
         let rec = plan.survey.point_bytes(number);
         let class = plan.classes.class_at(number);
         if passes(plan.filter, class, withheld(format, rec)) {
-            plot_point(frame, seat, &mut batch, plan.camera, xyz(rec), number);
+            plot_point(frame, seat, batch, plan.camera, xyz(rec), number);
         }
     }
-    batch.flush(frame, seat);
 }

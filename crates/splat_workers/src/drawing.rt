@@ -13,8 +13,8 @@ use view_ends::Beside;
 
 /// Draws a plan on a frame with so many workers, 1 to 64, who run side by side where threads can be
 /// started, and answers the root with the account of all of them. Worker 0 has the root, the others
-/// a seat each that is split off from it. Each claims kept blocks until none is left, and `beside` is
-/// told of each claim that gave one. A refusal is want of memory for the list of seats, whose room is
+/// a seat each that is split off from it. Each claims pieces until none is left, and `beside` is
+/// told of each claim that gave one, with the piece's number. A refusal is want of memory for the list of seats, whose room is
 /// made before the first split, and hands the root back as it was.
 pub fn draw_words<R: Threads + Sync, B: Beside>(
     alloc: Global,

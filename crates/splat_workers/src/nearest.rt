@@ -4,15 +4,15 @@ ghost use Rattle.view_meaning.specs.Frame.{IsFrame, NamesNearest};
 ghost use Rattle.view_meaning.specs.Survey.{record_count};
 
 use crate::drawing::draw_words;
-use crate::plan::Plan;
+use crate::plan::{Plan, step_for};
 use class_pages::Classes;
 use cull_boxes::kept;
 use grid_blocks::Blocks;
 use las_survey::Survey;
-use min_frame::{Frame, MOST_BLOCKS};
+use min_frame::{Frame, FrameWords, MOST_BLOCKS};
 use std::alloc::Global;
 use std::thread::Threads;
-use view_base::{OutOfMemory, Words};
+use view_base::OutOfMemory;
 use view_ends::Beside;
 use view_text::ViewSpec;
 
@@ -30,12 +30,12 @@ pub fn nearest_words<R: Threads + Sync, B: Beside>(
     view: &ViewSpec,
     workers: u32,
     beside: &B,
-) -> Result<Words, OutOfMemory>
+) -> Result<FrameWords, OutOfMemory>
     requires workers { (1 ≤ workers) × (workers ≤ 64) }
     requires records { length classes.now ≡ record_count survey.now }
     requires blocks { IsBlocks survey.now blocks.now }
-    ensures words { IfOk result (λ words. IsFrame survey.now classes.now view.now words.items) }
-    ensures nearest { IfOk result (λ words. NamesNearest survey.now classes.now view.now words.items) }
+    ensures words { IfOk result (λ words. IsFrame survey.now classes.now view.now words) }
+    ensures nearest { IfOk result (λ words. NamesNearest survey.now classes.now view.now words) }
     // So a record's number fits the lower half of a word, and a depth the upper.
     ensures few { OnOk result (record_count survey.now ≤ 53687091) }
     ensures shallow { OnOk result (view.now.camera.far ≤ 2 ^ 32 - 2) }
@@ -44,7 +44,6 @@ pub fn nearest_words<R: Threads + Sync, B: Beside>(
     prove!(survey.records() <= MOST_BLOCKS);
     let kept = kept(alloc, &view.camera, blocks)?;
     let pixels = view.camera.width() * view.camera.height();
-    let (frame, root) = Frame::new(alloc, pixels, kept.count(), workers)?;
     let plan = Plan {
         survey,
         classes,
@@ -52,7 +51,9 @@ pub fn nearest_words<R: Threads + Sync, B: Beside>(
         kept: &kept,
         camera: &view.camera,
         filter: &view.filter,
+        step: step_for(kept.count()),
     };
+    let (frame, root) = Frame::new(alloc, pixels, plan.pieces(), workers)?;
     match draw_words(alloc, rt, &plan, &frame, root, workers, beside) {
         Ok(root) => Ok(frame.close(root)),
         Err((refusal, _)) => Err(refusal),

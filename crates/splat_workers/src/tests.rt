@@ -9,19 +9,19 @@ use cull_boxes::kept;
 use grid_blocks::{Blocks, build, build_by_number};
 use int_camera::{Camera, CameraNumbers, Kind};
 use las_survey::{Survey, load};
-use min_frame::Frame;
+use min_frame::{Frame, FrameWords};
 use std::alloc::Global;
 use std::hint::spin_loop;
 use std::process::Abort;
 use std::sync::atomic::{AtomicU64, Ordering};
 use std::test::Fail;
 use std::thread::Threads;
-use view_base::{Bytes, Colouring, OutOfMemory, Words};
+use view_base::{Bytes, Colouring, OutOfMemory};
 use view_ends::{Beside, NoBeside, StillSource};
 use view_text::ViewSpec;
 
 /// A record: X, Y and Z, and its class byte.
-type Place = ([i32; 3], u8);
+pub(crate) type Place = ([i32; 3], u8);
 
 /// How often a held worker looks for the other one.
 const TURNS: u32 = 100_000_000;
@@ -83,7 +83,7 @@ fn append_record(bytes: &mut Bytes, ([x, y, z], class): Place) -> Result<(), Out
 }
 
 /// A survey of these records.
-fn survey_of(alloc: Global, places: &[Place]) -> Result<Survey, Fail> {
+pub(crate) fn survey_of(alloc: Global, places: &[Place]) -> Result<Survey, Fail> {
     let mut bytes = Bytes::new(alloc);
     append_header(&mut bytes, places.len())?;
     for place in places {
@@ -93,7 +93,12 @@ fn survey_of(alloc: Global, places: &[Place]) -> Result<Survey, Fail> {
 }
 
 /// The view of these classes by a parallel camera.
-fn view_of(rt: &impl Abort, n: [i128; 18], classes: ClassSet, hide_withheld: bool) -> ViewSpec {
+pub(crate) fn view_of(
+    rt: &impl Abort,
+    n: [i128; 18],
+    classes: ClassSet,
+    hide_withheld: bool,
+) -> ViewSpec {
     let kind = Kind::Ortho;
     let camera = Camera::new(&CameraNumbers { kind, n }).expect(rt, "a camera");
     ViewSpec {
@@ -140,7 +145,11 @@ fn word_by<R: Threads + Sync>(
     let words = nearest_words(
         alloc, rt, survey, &classes, &blocks, view, workers, &NoBeside,
     )?;
-    Ok(words.as_slice().get(pixel).copied())
+    if pixel < words.len() {
+        Ok(Some(words.word(pixel)))
+    } else {
+        Ok(None)
+    }
 }
 
 #[test]
@@ -202,20 +211,24 @@ impl Beside for Hold {
     }
 }
 
-/// Draws with two workers on a frame of its own.
-fn drawn_by_two<R: Abort + Threads + Sync>(
+/// Draws with so many workers on a frame of its own, by this many pieces of so many blocks.
+pub(crate) fn drawn_by<R: Abort + Threads + Sync, B: Beside>(
     rt: &R,
     alloc: Global,
     survey: &Survey,
     view: &ViewSpec,
-    hold: &Hold,
-) -> Result<Words, OutOfMemory> {
+    cut: (u32, u32),
+    workers: u32,
+    beside: &B,
+) -> Result<FrameWords, OutOfMemory>
+    requires { (1 ≤ workers) × (workers ≤ 64) }
+{
+    let (step, pieces) = cut;
+    assert!(rt; step >= 1);
     let classes = base(alloc, survey)?;
     let blocks = build(alloc, rt, 1, survey)?;
     let kept = kept(alloc, &view.camera, &blocks)?;
-    assert!(rt; kept.count() == 3);
     let pixels = view.camera.width() * view.camera.height();
-    let (frame, root) = Frame::new(alloc, pixels, kept.count(), 2)?;
     let plan = Plan {
         survey,
         classes: &classes,
@@ -223,8 +236,11 @@ fn drawn_by_two<R: Abort + Threads + Sync>(
         kept: &kept,
         camera: &view.camera,
         filter: &view.filter,
+        step,
     };
-    match draw_words(alloc, rt, &plan, &frame, root, 2, hold) {
+    assert!(rt; plan.pieces() == pieces);
+    let (frame, root) = Frame::new(alloc, pixels, pieces, workers)?;
+    match draw_words(alloc, rt, &plan, &frame, root, workers, beside) {
         Ok(root) => Ok(frame.close(root)),
         Err((refusal, _)) => Err(refusal),
     }
@@ -235,13 +251,26 @@ fn two_workers_run_at_the_same_time(rt: HostRuntime) -> Result<(), Fail> {
     let survey = survey_of(rt.alloc(), &[([0, 0, 5], 2); 2049])?;
     let view = view_of(&rt, ONE_PIXEL, ClassSet::all(), false);
     let hold = Hold::new();
-    let words = drawn_by_two(&rt, rt.alloc(), &survey, &view, &hold)?;
+    let words = drawn_by(&rt, rt.alloc(), &survey, &view, (1, 3), 2, &hold)?;
     for told in &hold.told {
         assert_eq!(rt; told.load(Ordering::SeqCst), 1);
     }
     assert_eq!(rt; hold.late.load(Ordering::SeqCst), 0);
-    assert!(rt; words.as_slice() == [5 << 32].as_slice());
+    assert!(rt; are(&words, &[5 << 32]));
     Ok(())
+}
+
+/// Whether these are the frame's words.
+pub(crate) fn are(words: &FrameWords, wanted: &[u64]) -> bool {
+    if words.len() != wanted.len() {
+        return false;
+    }
+    for (pixel, word) in wanted.iter().enumerate() {
+        if words.word(pixel) != *word {
+            return false;
+        }
+    }
+    true
 }
 
 /// The pixel across and down, the depth and the class byte of record `i` of the scene.
@@ -301,7 +330,7 @@ fn draws<R: Abort + Threads + Sync>(
 {
     for workers in [1, 2, 3] {
         let words = nearest_words(alloc, rt, survey, classes, blocks, view, workers, &NoBeside)?;
-        assert!(rt; words.as_slice() == wanted);
+        assert!(rt; are(&words, wanted));
     }
     Ok(())
 }

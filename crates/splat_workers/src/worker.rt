@@ -2,7 +2,7 @@ ghost use Rattle.std.specs.Prelude.{◌≡◌};
 ghost use Rattle.splat_workers.specs.Drawing.{IsFrameFor};
 ghost use Rattle.splat_workers.specs.Working.{HasDrawn, IsReady};
 
-use crate::block::draw_block;
+use crate::piece::draw_piece;
 use crate::plan::Plan;
 use min_frame::{Frame, Seat};
 use view_ends::Beside;
@@ -14,7 +14,7 @@ pub(crate) struct Worker {
     pub(crate) seat: Seat,
 }
 
-/// Claims kept blocks until none is left, tells of each claim, and draws the block.
+/// Claims pieces until none is left, tells of each claim, and draws the piece.
 pub(crate) fn work<B: Beside>(plan: &Plan, frame: &Frame, beside: &B, worker: &mut Worker)
     requires fits { IsFrameFor plan.now frame.now }
     requires ready { IsReady frame.now.name worker.old.seat }
@@ -24,6 +24,6 @@ pub(crate) fn work<B: Beside>(plan: &Plan, frame: &Frame, beside: &B, worker: &m
 {
     while let Some(claimed) = frame.claim(&mut worker.seat) {
         beside.arrive(worker.number, claimed);
-        draw_block(plan, frame, &mut worker.seat, plan.kept.at(claimed));
+        draw_piece(plan, frame, &mut worker.seat, claimed);
     }
 }

@@ -7,7 +7,7 @@ use Rattle.splat_workers.proofs.block.plot_each.Given as goal
 
 abbrev pub invariant-loop-place : goal.invariant-loop-place
 invariant-loop-place l = record {
-  drawn : drawn l.seat l.batch ≡ plotting l.fn.seat (flat_map (pair_of l.plan.survey.now l.plan.classes.now l.plan.camera.now l.plan.filter.now) (take l.place l.numbers));
+  drawn : drawn l.seat l.batch ≡ plotting (drawn l.fn.seat l.fn.batch) (flat_map (pair_of l.plan.survey.now l.plan.classes.now l.plan.camera.now l.plan.filter.now) (take l.place l.numbers));
   frame : l.seat.frame ≡ l.fn.seat.frame;
   waits : l.batch.pixels ≡ l.frame.pixels;
 }

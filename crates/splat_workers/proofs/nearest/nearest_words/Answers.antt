@@ -9,7 +9,7 @@ use Rattle.splat_workers.proofs.nearest.nearest_words.Goals as goal
 
 pub new-requires-clause-blocks : goal.new-requires-clause-blocks
 new-requires-clause-blocks g c =
-    omega (arith, c.count.ensures, c.in_ok-kept.ensures.few, cut_few c.args.blocks.now.blocks (record_count c.args.survey.now) c.requires.blocks.cut, c.records.ensures.count)
+    omega (arith, c.pieces.ensures.few, c.in_ok-kept.ensures.few, cut_few c.args.blocks.now.blocks (record_count c.args.survey.now) c.requires.blocks.cut, c.records.ensures.count)
 
 drawn : goal.returns-in-Ok-clause-words
 drawn g c =
@@ -17,16 +17,17 @@ drawn g c =
     let cs = c.args.classes.now in
     let view : View = record { camera = c.view.inside.camera; colouring = c.view.inside.colouring; filter = c.view.inside.filter } in
     let kept = c.in_ok-kept.kept in
+    let step = c.step_for.result in
     let root = c.in-Ok.root in
-    let items = c.close.result.items in
+    let items = c.close.result in
     let frame = c.in_ok-frame.ensures.frame in
     let far : view.camera.far < 2 ^ 32 - 1 = omega (arith, c.width.ensures.deepest) in
     let few : record_count b ≤ 2 ^ 32 = omega (arith, c.records.ensures.count, c.records.ensures.small) in
     let size : length items ≡ view.camera.width * view.camera.height = c.close.ensures.pixels ∙ (frame.0 ∙ (ap (λ (n : ℕ). n * c.height.result) c.width.ensures.value ∙ ap (λ (n : ℕ). c.view.inside.camera.width * n) c.height.ensures.value)) in
     let ended : root.ends < c.in_ok-frame.frame.ends = omega (arith, c.in-Ok.ensures.ends, frame.2, c.requires.workers.0) in
     subst (λ (v : View). IsFrame b cs v items) c.view.view_is
-    (words_of_pairs b cs view c.args.blocks.now kept root.claims items root.plots far few c.requires.blocks c.in_ok-kept.ensures.in_view
-    (λ n lt. c.close.ensures.all ended n (omega (arith, lt, frame.1, c.count.ensures)))
+    (words_of_pairs b cs view c.args.blocks.now kept root.claims items step root.plots far few c.requires.blocks c.in_ok-kept.ensures.in_view c.step_for.ensures
+    (λ n lt. c.close.ensures.all ended n (omega (arith, lt, frame.1, c.pieces.ensures.count)))
     c.in-Ok.ensures.plots size c.close.ensures.least)
 
 pub returns-in-Ok-clause-words : goal.returns-in-Ok-clause-words
@@ -38,4 +39,4 @@ returns-in-Ok-clause-nearest g c =
     let view = c.args.view.now in
     let far : view.camera.far ≤ 2 ^ 32 - 2 = search (rules, c.width.ensures.deepest, c.view.view_is) in
     let few : record_count b ≤ 2 ^ 32 = omega (arith, c.records.ensures.count, c.records.ensures.small) in
-    frame_names b c.args.classes.now view c.close.result.items (omega (arith, far)) few (drawn g c)
+    frame_names b c.args.classes.now view c.close.result (omega (arith, far)) few (drawn g c)
