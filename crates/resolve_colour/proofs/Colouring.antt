@@ -1,15 +1,18 @@
 -- Colours of records, and of words one after another.
-use Rattle.std.proofs.Common.{◌≡◌, [], ◌∷◌, ◌/◌, min, ◌<◌, ◌≤◌, ◌*◌, ◌-◌, ◌^◌, ◌%◌, ◌==◌, ◌++◌, List, length, length-append, take, drop, replicate, take_all, ◌+◌, ◌∙◌, ℕ, Bool, false, Option, Some, None, IfSome, if◌then◌else◌, ap, subst, sym, arith, refl}
+use borrow.Rule.Slice.PartMut.{put_mid}
+use Rattle.std.proofs.Common.{◌≡◌, [], ◌∷◌, ◌/◌, min, ◌<◌, ◌≤◌, ◌*◌, ◌-◌, ◌^◌, ◌%◌, ◌==◌, ◌++◌, List, length, length-append, take, drop, replicate, slice_index, append_assoc, take_all, take_at, drop_at, take-add, drop-drop, get_or-drop, ◌+◌, ◌∙◌, ℕ, Bool, false, Option, Some, None, IfSome, if◌then◌else◌, ap, subst, sym, arith, refl}
 use Rattle.std.proofs.Math.Seq.{take-append_seam, drop-append_seam}
 use Rattle.std.proofs.lemmas.Bool.Decides.{nat_tests}
-use Rattle.std.proofs.lemmas.List.{append-nil, drop_all, drop-replicate, length-drop, length-replicate, length-take-le, take-replicate}
+use Rattle.std.proofs.lemmas.List.{append-nil, drop_all, drop-replicate, length-drop, length-replicate, take_more}
+use Rattle.std.proofs.lemmas.Grind.{flat_map-append}
+use Rattle.std.specs.List.{flat_map}
 use Rattle.std.specs.Option.{option_map}
 use Rattle.view_base.specs.declared.colour.Rgb.{Rgb}
 use Rattle.view_base.specs.declared.colour.Colouring.TheVariants.{Rgb16, Rgb8, Intensity}
 use Rattle.view_meaning.specs.Survey.{format_of, record_at, rgb_place, rgb_at, intensity_of}
 use Rattle.view_meaning.specs.Picture.{channels, rgb_colour, grey, colour}
 use Rattle.view_meaning.specs.Frame.{record_in}
-use Rattle.resolve_colour.specs.Names.{NamesOne}
+use Rattle.resolve_colour.specs.Names.{NamesOne, part}
 
 -- a word that is not all ones names a record
 pub record_in-named : (word : ℕ) → (word ≡ 2 ^ 64 - 1 → ⊥) → record_in word ≡ Some (word % 2 ^ 32)
@@ -68,12 +71,45 @@ tail_written old whole colours n m is at size =
 pub tail_black : (old whole : List ℕ) (n m : ℕ) → whole ≡ old ++ replicate m 0 → n ≡ length old → drop n whole ≡ replicate m 0
 tail_black old whole n m is at = ap (λ (k : ℕ). drop k whole) at ∙ (ap (drop (length old)) is ∙ drop-append_seam old (replicate m 0))
 
--- the black of the first words, and of the others
-pub black_front : (cs ws : List ℕ) (half : ℕ) → cs ≡ replicate (3 * length ws) 0 → half ≤ length ws → take (3 * half) cs ≡ replicate (3 * length (take half ws)) 0
-black_front cs ws half black within =
-    ap (take (3 * half)) black ∙ (take-replicate (3 * half) (3 * length ws) 0 (omega (arith, within)) ∙ ap (λ (n : ℕ). replicate (3 * n) 0) (sym (length-take-le half ws within)))
+-- one more word, whose bytes were written over the first that are black
+pub coloured_more : (f : ℕ → List ℕ) (ws cs painted : List ℕ) (first count i word : ℕ) → first + i < length ws → i < count → word ≡ slice_index ws (first + i) → painted ≡ f word → length painted ≡ 3
+    → length (flat_map f (take i (drop first ws))) ≡ 3 * i → cs ≡ flat_map f (take i (drop first ws)) ++ replicate (3 * (count - i)) 0
+    → (length (flat_map f (take (i + 1) (drop first ws))) ≡ 3 * (i + 1))
+    × (put_mid (3 * i) (3 * i + 3 - 3 * i) cs painted ≡ flat_map f (take (i + 1) (drop first ws)) ++ replicate (3 * (count - (i + 1))) 0)
+coloured_more f ws cs painted first count i word inside below read is three long filled =
+    let others : List ℕ = drop first ws in
+    let done : List ℕ = flat_map f (take i others) in
+    let black : List ℕ = replicate (3 * (count - i)) 0 in
+    let k : ℕ = 3 * i + 3 - 3 * i in
+    let low : i < length others = omega (arith, inside, length-drop first ws) in
+    let same : slice_index others i ≡ word = get_or-drop first ws i 0 ∙ sym read in
+    let next : flat_map f (take (i + 1) others) ≡ done ++ painted =
+    ap (flat_map f) (take_more others i 0 low ∙ ap (λ (n : ℕ). take i others ++ n ∷ []) same) ∙ flat_map-append f (take i others) (word ∷ [])
+    ∙ ap (λ (l : List ℕ). done ++ l) (append-nil (f word) ∙ sym is) in
+    let front : take (3 * i) cs ≡ done = ap (take (3 * i)) filled ∙ take_at done black (3 * i) long in
+    let left : 3 * (count - i) - k ≡ 3 * (count - (i + 1)) = omega (arith, below) in
+    let back : drop k (drop (3 * i) cs) ≡ replicate (3 * (count - (i + 1))) 0 =
+    ap (drop k) (ap (drop (3 * i)) filled ∙ drop_at done black (3 * i) long) ∙ drop-replicate k (3 * (count - i)) 0 ∙ ap (λ (n : ℕ). replicate n 0) left in (
+      omega (arith, ap length next, length-append done painted, long, three),
+      ap (λ (l : List ℕ). l ++ (painted ++ drop k (drop (3 * i) cs))) front ∙ ap (λ (l : List ℕ). done ++ (painted ++ l)) back
+          ∙ sym (append_assoc done painted (replicate (3 * (count - (i + 1))) 0)) ∙ ap (λ (l : List ℕ). l ++ replicate (3 * (count - (i + 1))) 0) (sym next),
+    )
 
-pub black_back : (cs ws : List ℕ) (half : ℕ) → cs ≡ replicate (3 * length ws) 0 → half ≤ length ws → drop (3 * half) cs ≡ replicate (3 * length (drop half ws)) 0
-black_back cs ws half black within =
-    let left : 3 * length ws - 3 * half ≡ 3 * length (drop half ws) = omega (arith, length-drop half ws, within) in
-    ap (drop (3 * half)) black ∙ (drop-replicate (3 * half) (3 * length ws) 0 ∙ ap (λ (n : ℕ). replicate n 0) left)
+-- two parts that follow each other
+pub part-split : (ws : List ℕ) (first middle end : ℕ) → first ≤ middle → middle ≤ end → part first end ws ≡ part first middle ws ++ part middle end ws
+part-split ws first middle end low high =
+    let sizes : end - first ≡ (middle - first) + (end - middle) = omega (arith, low, high) in
+    let place : first + (middle - first) ≡ middle = omega (arith, low) in
+    ap (λ (n : ℕ). take n (drop first ws)) sizes ∙ take-add (middle - first) (end - middle) (drop first ws)
+    ∙ ap (λ (l : List ℕ). take (middle - first) (drop first ws) ++ take (end - middle) l) (drop-drop (middle - first) first ws ∙ ap (λ (n : ℕ). drop n ws) place)
+
+-- what is written for two parts that follow each other
+pub coloured_parts : (f : ℕ → List ℕ) (ws front back : List ℕ) (first middle end : ℕ) → front ≡ flat_map f (part first middle ws) → back ≡ flat_map f (part middle end ws)
+    → first ≤ middle → middle ≤ end → front ++ back ≡ flat_map f (part first end ws)
+coloured_parts f ws front back first middle end is after low high =
+    ap (λ (l : List ℕ). l ++ back) is ∙ ap (λ (l : List ℕ). flat_map f (part first middle ws) ++ l) after
+    ∙ sym (flat_map-append f (part first middle ws) (part middle end ws)) ∙ ap (flat_map f) (sym (part-split ws first middle end low high))
+
+-- the whole list is its one part
+pub part-whole : (ws : List ℕ) (n : ℕ) → n ≡ length ws → part 0 n ws ≡ ws
+part-whole ws n long = take_all (n - 0) ws (omega (arith, long))

@@ -6,6 +6,8 @@ mod paint;
 mod pixels;
 #[cfg(test)]
 mod tests;
+mod words;
 
 pub use las_points::can_colour;
 pub use pixels::colours;
+pub use words::PixelWords;

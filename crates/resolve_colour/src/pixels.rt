@@ -1,16 +1,17 @@
-ghost use Rattle.std.specs.Prelude.{◌≡◌, ◌*◌, ◌<◌, ◌≤◌, ◌++◌, All, length, replicate, true};
+ghost use Rattle.std.specs.Prelude.{◌≡◌, ◌*◌, ◌-◌, ◌<◌, ◌≤◌, ◌++◌, All, length, take, drop, replicate, true};
 ghost use Rattle.std.specs.List.{flat_map};
 ghost use Rattle.std.specs.Thread.{IsSync};
-ghost use Rattle.resolve_colour.specs.Names.{IsPaintable, NamesOne};
+ghost use Rattle.resolve_colour.specs.Names.{IsPaintable, NamesOne, part};
 ghost use Rattle.view_meaning.specs.Frame.{word_colour};
 ghost use Rattle.view_meaning.specs.Picture.{can_colour};
 ghost use Rattle.view_meaning.specs.Survey.{record_count, format_of};
 
 use crate::paint::{ByClass, ByIntensity, ByRgb8, ByRgb16, Paint};
+use crate::words::PixelWords;
 use class_pages::Classes;
 use las_survey::Survey;
 use std::thread::{Threads, join_mut};
-use view_base::{Bytes, Colouring, Words};
+use view_base::{Bytes, Colouring};
 
 /// The word of a pixel that shows no record.
 const EMPTY: u64 = u64::MAX;
@@ -25,10 +26,10 @@ const SHARED: usize = 4096;
 ///
 /// The class palette is this project's own. RGB of 16 bits a channel shows by its upper byte, RGB
 /// of 8 bits by its value up to 255, and intensity by its upper byte as a grey.
-pub fn colours<R: Threads + Sync>(
+pub fn colours<R: Threads + Sync, W: PixelWords + Sync>(
     rt: &R,
     workers: u32,
-    words: &Words,
+    words: &W,
     survey: &Survey,
     classes: &Classes,
     colouring: Colouring,
@@ -36,79 +37,106 @@ pub fn colours<R: Threads + Sync>(
 )
     requires workers { (1 ≤ workers) × (workers ≤ 64) }
     requires can_colour { can_colour (format_of survey.now) colouring ≡ true }
-    requires names { All (NamesOne (record_count survey.now)) words.now.items }
+    requires names { All (NamesOne (record_count survey.now)) (W.words words.now) }
     requires records { length classes.now ≡ record_count survey.now }
-    requires room { 3 * length words.now.items ≤ out.old.spare }
-    ensures { out.new.items ≡ out.old.items ++ flat_map (word_colour survey.now classes.now colouring) words.now.items }
+    requires room { 3 * length (W.words words.now) ≤ out.old.spare }
+    ensures { out.new.items ≡ out.old.items ++ flat_map (word_colour survey.now classes.now colouring) (W.words words.now) }
 {
-    let words = words.as_slice();
     match colouring {
-        Colouring::Class => append_colours::<R, ByClass>(rt, workers, words, survey, classes, out),
-        Colouring::Rgb16 => append_colours::<R, ByRgb16>(rt, workers, words, survey, classes, out),
-        Colouring::Rgb8 => append_colours::<R, ByRgb8>(rt, workers, words, survey, classes, out),
+        Colouring::Class => {
+            append_colours::<R, W, ByClass>(rt, workers, words, survey, classes, out)
+        }
+        Colouring::Rgb16 => {
+            append_colours::<R, W, ByRgb16>(rt, workers, words, survey, classes, out)
+        }
+        Colouring::Rgb8 => {
+            append_colours::<R, W, ByRgb8>(rt, workers, words, survey, classes, out)
+        }
         Colouring::Intensity => {
-            append_colours::<R, ByIntensity>(rt, workers, words, survey, classes, out)
+            append_colours::<R, W, ByIntensity>(rt, workers, words, survey, classes, out)
         }
     }
 }
 
 /// Appends the colours of words by one colouring.
-fn append_colours<R: Threads + Sync, P: Paint + Sync>(
+fn append_colours<R: Threads + Sync, W: PixelWords + Sync, P: Paint + Sync>(
     rt: &R,
     workers: u32,
-    words: &[u64],
+    words: &W,
     survey: &Survey,
     classes: &Classes,
     out: &mut Bytes,
 )
     requires can_colour { can_colour (format_of survey.now) P.colouring ≡ true }
-    requires names { All (NamesOne (record_count survey.now)) words.now }
+    requires names { All (NamesOne (record_count survey.now)) (W.words words.now) }
     requires records { length classes.now ≡ record_count survey.now }
-    requires room { 3 * length words.now ≤ out.old.spare }
-    ensures { out.new.items ≡ out.old.items ++ flat_map (word_colour survey.now classes.now P.colouring) words.now }
+    requires room { 3 * length (W.words words.now) ≤ out.old.spare }
+    ensures { out.new.items ≡ out.old.items ++ flat_map (word_colour survey.now classes.now P.colouring) (W.words words.now) }
 {
+    let pixels = words.len();
     let from = out.len();
-    out.extend_by(3 * words.len(), 0);
+    out.extend_by(3 * pixels, 0);
     let colours = out.tail_mut(from);
-    colour_side_by_side::<R, P>(rt, workers, words, survey, classes, colours);
+    colour_side_by_side::<R, W, P>(rt, workers, words, 0, pixels, survey, classes, colours);
 }
 
-/// Writes the three bytes of each pixel with one of these words over black, by workers side by side, each with
-/// its share of the pixels, or by one where they are few.
-#[tactic(auto, using(crate::proofs::Colouring::black_front, crate::proofs::Colouring::black_back))]
-fn colour_side_by_side<R: Threads + Sync, P: Paint + Sync>(
+/// Writes over black the three bytes of each of these words from `first` to before `end`, by workers side by side,
+/// each with its share of the pixels, or by one where they are few.
+#[tactic(auto, using(crate::proofs::Colouring::coloured_parts))]
+fn colour_side_by_side<R: Threads + Sync, W: PixelWords + Sync, P: Paint + Sync>(
     rt: &R,
     workers: u32,
-    words: &[u64],
+    words: &W,
+    first: usize,
+    end: usize,
     survey: &Survey,
     classes: &Classes,
     colours: &mut [u8],
 )
-    requires can_colour { can_colour (format_of survey.now) P.colouring ≡ true }
-    requires names { All (NamesOne (record_count survey.now)) words.now }
-    requires records { length classes.now ≡ record_count survey.now }
-    requires black { colours.old ≡ replicate (3 * length words.now) 0 }
-    ensures { colours.new ≡ flat_map (word_colour survey.now classes.now P.colouring) words.now }
+    requires { IsPaintable survey.now classes.now P.colouring (W.words words.now) first end colours.old }
+    ensures { colours.new ≡ flat_map (word_colour survey.now classes.now P.colouring) (part first end (W.words words.now)) }
 {
-    if workers < 2 || words.len() < SHARED {
-        colour_pixels::<P>(colours, words, survey, classes);
+    if workers < 2 || end - first < SHARED {
+        colour_pixels::<W, P>(colours, words, first, end, survey, classes);
         return;
     }
     let front_workers = workers / 2;
     let back_workers = workers - front_workers;
-    let half = front_share(words.len(), workers);
-    let (front_words, back_words) = words.split_at(half);
+    let half = front_share(end - first, workers);
+    let middle = first + half;
     let (front, back) = colours.split_at_mut(3 * half);
     join_mut(
         rt,
         &mut ||
-            requires { IsSync R.row × IsSync P.row × IsPaintable survey.now classes.now P.colouring front_words.now front.now }
-            ensures { front.exit.now ≡ flat_map (word_colour survey.entry.now classes.entry.now P.colouring) front_words.entry.now }
-        { colour_side_by_side::<R, P>(rt, front_workers, front_words, survey, classes, front) },
+            requires { IsSync R.row × IsSync W.row × IsSync P.row × IsPaintable survey.now classes.now P.colouring (W.words words.now) first middle front.now }
+            ensures { front.exit.now ≡ flat_map (word_colour survey.entry.now classes.entry.now P.colouring) (part first middle (W.words words.entry.now)) }
+        {
+            colour_side_by_side::<R, W, P>(
+                rt,
+                front_workers,
+                words,
+                first,
+                middle,
+                survey,
+                classes,
+                front,
+            )
+        },
         &mut ||
-            requires { IsSync R.row × IsSync P.row × IsPaintable survey.now classes.now P.colouring back_words.now back.now }
-            ensures { back.exit.now ≡ flat_map (word_colour survey.entry.now classes.entry.now P.colouring) back_words.entry.now }
-        { colour_side_by_side::<R, P>(rt, back_workers, back_words, survey, classes, back) },
+            requires { IsSync R.row × IsSync W.row × IsSync P.row × IsPaintable survey.now classes.now P.colouring (W.words words.now) middle end back.now }
+            ensures { back.exit.now ≡ flat_map (word_colour survey.entry.now classes.entry.now P.colouring) (part middle end (W.words words.entry.now)) }
+        {
+            colour_side_by_side::<R, W, P>(
+                rt,
+                back_workers,
+                words,
+                middle,
+                end,
+                survey,
+                classes,
+                back,
+            )
+        },
     );
 }
 
@@ -120,19 +148,23 @@ fn front_share(pixels: usize, workers: u32) -> usize
     pixels / workers as usize * (workers / 2) as usize
 }
 
-/// Writes the three bytes of each pixel with one of these words over black.
-fn colour_pixels<P: Paint>(colours: &mut [u8], words: &[u64], survey: &Survey, classes: &Classes)
-    requires can_colour { can_colour (format_of survey.now) P.colouring ≡ true }
-    requires names { All (NamesOne (record_count survey.now)) words.now }
-    requires records { length classes.now ≡ record_count survey.now }
-    requires black { colours.old ≡ replicate (3 * length words.now) 0 }
-    ensures { colours.new ≡ flat_map (word_colour survey.now classes.now P.colouring) words.now }
+/// Writes over black the three bytes of each of these words from `first` to before `end`.
+fn colour_pixels<W: PixelWords, P: Paint>(
+    colours: &mut [u8],
+    words: &W,
+    first: usize,
+    end: usize,
+    survey: &Survey,
+    classes: &Classes,
+)
+    requires { IsPaintable survey.now classes.now P.colouring (W.words words.now) first end colours.old }
+    ensures { colours.new ≡ flat_map (word_colour survey.now classes.now P.colouring) (part first end (W.words words.now)) }
 {
-    for pixel in 0..words.len() {
+    for pixel in 0..end - first {
         let place = 3 * pixel;
         paint_over::<P>(
             &mut colours[place..place + 3],
-            words[pixel],
+            words.word(first + pixel),
             survey,
             classes,
         );

@@ -27,13 +27,13 @@ picture-appended b same cs inside view words old room headed new width height is
 pub colours-requires-clause-names : goal.colours-requires-clause-names
 colours-requires-clause-names g c =
     let wide : 1 ≤ c.args.view.now.camera.width = subst (λ (v : View). 1 ≤ v.camera.width) c.view.view_is (omega (arith, c.width.ensures)) in
-    let names : All (NamesOne (record_count c.deref-survey.result.now)) c.in_ok-words.words.items =
-    frame_names_records c.deref-survey.result.now c.args.classes.now c.args.view.now c.in_ok-words.words.items wide c.in_ok-words.ensures.words c.in_ok-words.ensures.nearest in
+    let names : All (NamesOne (record_count c.deref-survey.result.now)) c.in_ok-words.words =
+    frame_names_records c.deref-survey.result.now c.args.classes.now c.args.view.now c.in_ok-words.words wide c.in_ok-words.ensures.words c.in_ok-words.ensures.nearest in
     search rules
 
 pub returns-clause-drawn : goal.returns-clause-drawn
 returns-clause-drawn g c =
-    picture-appended (arc_value c.args.scene.now.survey) c.deref-survey.result.now c.args.classes.now (record { camera = c.view.inside.camera; colouring = c.view.inside.colouring; filter = c.view.inside.filter }) c.args.view.now c.in_ok-words.words.items c.args.out.now.items _ _ _ _ _
+    picture-appended (arc_value c.args.scene.now.survey) c.deref-survey.result.now c.args.classes.now (record { camera = c.view.inside.camera; colouring = c.view.inside.colouring; filter = c.view.inside.filter }) c.args.view.now c.in_ok-words.words c.args.out.now.items _ _ _ _ _
     c.deref-survey.ensures c.view.view_is c.width.ensures.value c.height.ensures.value c.in_ok-reserve.ensures.same c.ppm_header.ensures.appended c.colours.ensures
     (omega (arith, c.in_ok-words.ensures.shallow)) (omega (arith, c.in_ok-words.ensures.few)) c.in_ok-words.ensures.words
 
