@@ -31,8 +31,8 @@ pub struct Scene {
 
 /// Appends the whole picture of a survey under these classes, as a binary PPM of
 /// `ppm_length(width, height)` bytes. The scene's workers draw it side by side, and `beside` is told
-/// of each block that one of them claimed. A refusal is want of memory and leaves what was there as
-/// it was.
+/// of each piece of the work that one of them claimed. A refusal is want of memory and leaves what
+/// was there as it was.
 #[tactic(auto, using(min_frame::proofs::Crossing::frame_words_sync))]
 pub fn picture<R: Threads + Sync, B: Beside>(
     alloc: Global,

@@ -1,7 +1,7 @@
 /// Whoever watches the workers of a picture.
 pub trait Beside: Sync {
-    /// Is told that a worker, numbered from 0, claimed the block with this number. It promises
-    /// nothing, and returns.
+    /// Is told that a worker, numbered from 0, claimed the piece of the picture's work with this
+    /// number. It promises nothing, and returns.
     fn arrive(&self, worker: u32, number: u32);
 }
 
