@@ -224,7 +224,7 @@ pub(crate) fn drawn_by<R: Abort + Threads + Sync, B: Beside>(
     requires { (1 ≤ workers) × (workers ≤ 64) }
 {
     let (step, pieces) = cut;
-    assert!(rt; step >= 1);
+    assert!(rt; step >= 1 && pieces <= 5);
     let classes = base(alloc, survey)?;
     let blocks = build(alloc, rt, 1, survey)?;
     let kept = kept(alloc, &view.camera, &blocks)?;
