@@ -33,7 +33,6 @@ pub struct Scene {
 /// `ppm_length(width, height)` bytes. The scene's workers draw it side by side, and `beside` is told
 /// of each piece of the work that one of them claimed. A refusal is want of memory and leaves what
 /// was there as it was.
-#[tactic(auto, using(min_frame::proofs::Crossing::frame_words_sync))]
 pub fn picture<R: Threads + Sync, B: Beside>(
     alloc: Global,
     rt: &R,

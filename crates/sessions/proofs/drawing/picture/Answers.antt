@@ -5,6 +5,7 @@ use Rattle.view_meaning.specs.Survey.{record_count}
 use Rattle.view_meaning.specs.Picture.{View, picture, ppm_header}
 use Rattle.view_meaning.specs.Frame.{IsFrame, word_colour}
 use Rattle.view_meaning.proofs.Colours.{picture-words}
+use Rattle.min_frame.proofs.Crossing.{frame_words_sync}
 use Rattle.resolve_colour.specs.Names.{NamesOne}
 use Rattle.sessions.proofs.Lengths.{length-picture}
 use Rattle.sessions.proofs.Shown.{appended-shows_nearest}
@@ -23,6 +24,10 @@ picture-appended b same cs inside view words old room headed new width height is
     ∙ ap (λ (k : ℕ). old ++ (ppm_header k height ++ colours)) (wide ∙ ap (λ (v : View). v.camera.width) seen)
     ∙ ap (λ (k : ℕ). old ++ (ppm_header view.camera.width k ++ colours)) (high ∙ ap (λ (v : View). v.camera.height) seen)
     ∙ ap (λ (l : List ℕ). old ++ l) (picture-words same cs view words far few frame ∙ ap (λ (l : List ℕ). picture l cs view) is)
+
+-- the words of a closed frame are read by all workers
+pub colours-requires-sync-W : goal.colours-requires-sync-W
+colours-requires-sync-W g c κs within = record { shared = frame_words_sync.shared }
 
 pub colours-requires-clause-names : goal.colours-requires-clause-names
 colours-requires-clause-names g c =
