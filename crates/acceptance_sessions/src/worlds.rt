@@ -4,6 +4,7 @@ ghost use Rattle.version_store.specs.Sharing.{IsOwn};
 
 use grid_blocks::build;
 use las_survey::{Survey, load};
+use min_frame::EmptyWords;
 use sessions::{Scene, World};
 use std::alloc::Global;
 use std::sync::Arc;
@@ -32,6 +33,7 @@ pub(crate) fn world<R: Threads + Sync>(rt: &R, alloc: Global) -> Result<(World, 
         survey,
         blocks,
         workers: 1,
+        empty: EmptyWords::none(alloc),
     };
     Ok((World { scene, shared }, root))
 }

@@ -1,4 +1,5 @@
 pub mod Claimed
+pub mod Empty
 pub mod Least
 pub mod Meaning
 pub mod Rule

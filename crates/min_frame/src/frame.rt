@@ -1,7 +1,9 @@
 ghost use Rattle.std.specs.Prelude.{◌≡◌, ℕ, ◌+◌, ◌-◌, ◌<◌, ◌≤◌, true, false, [], ◌∷◌, ◌++◌, length, slice_index, All, Contains, EachIndex, IfOk, IfSome, IfNone};
 ghost use Rattle.min_frame.specs.Least.{least};
+ghost use Rattle.min_frame.specs.Empty.{AreEmpty};
 ghost use Rattle.min_frame.specs.Claimed.{times};
 
+use crate::empty_words::EmptyWords;
 use crate::rule::{Claim, Cut, Given, Merge, Plot, Rule};
 use crate::seat::Seat;
 use crate::view::{Size, View};
@@ -19,9 +21,6 @@ pub const MOST_BLOCKS: u32 = 53_687_091;
 
 /// The most workers that draw one picture.
 pub const MOST_ENDS: u32 = 64;
-
-/// The word of a pixel on which nothing was plotted.
-const EMPTY: u64 = u64::MAX;
 
 /// A framebuffer that threads share by `&`: a 64-bit word for each pixel, which plots lower, and
 /// numbers of pieces of work, which are claimed. No call waits for another thread.
@@ -45,10 +44,11 @@ impl Model for Frame {
 
 impl Frame {
     /// A frame of `pixels` empty words, on which the numbers below `blocks` can be claimed and
-    /// `ends` claims may find nothing left, with its root seat. Takes the memory of all later
-    /// calls; the refusal is want of it.
+    /// `ends` claims may find nothing left, with its root seat. Its words are copied from `empty`
+    /// where that has as many. Takes the memory of all later calls; the refusal is want of it.
     pub fn new(
         alloc: Global,
+        empty: &EmptyWords,
         pixels: u32,
         blocks: u32,
         ends: u32,
@@ -59,18 +59,31 @@ impl Frame {
         ensures frame { IfOk result (λ r. (r.0.pixels ≡ pixels) × (r.0.blocks ≡ blocks) × (r.0.ends ≡ ends)) }
         ensures seat { IfOk result (λ r. r.1 ≡ record { frame = r.0.name; plots = []; claims = []; ends = ends; root = true; out = 0 }) }
     {
-        let mut words = vec![in alloc; EMPTY; pixels as usize + 1]?;
-        words[pixels as usize] = 0;
         let size = Size {
             pixels,
             blocks,
             ends,
         };
-        let (table, inner) = Table::of_words(alloc, words.as_slice(), &size)?;
+        match empty.of(pixels) {
+            Some(words) => Frame::of(alloc, words, &size),
+            None => Frame::of(alloc, EmptyWords::new(alloc, pixels)?.words(), &size),
+        }
+    }
+
+    /// A frame of this size, whose words are copied from these, with its root seat.
+    fn of(alloc: Global, words: &[u64], size: &Size) -> Result<(Frame, Seat), OutOfMemory>
+        requires words { (length words.now ≡ size.now.pixels + 1) × AreEmpty words.now }
+        requires pixels { 1 ≤ size.now.pixels }
+        requires blocks { size.now.blocks ≤ MOST_BLOCKS }
+        requires ends { (1 ≤ size.now.ends) × (size.now.ends ≤ MOST_ENDS) }
+        ensures frame { IfOk result (λ r. (r.0.pixels ≡ size.now.pixels) × (r.0.blocks ≡ size.now.blocks) × (r.0.ends ≡ size.now.ends)) }
+        ensures seat { IfOk result (λ r. r.1 ≡ record { frame = r.0.name; plots = []; claims = []; ends = size.now.ends; root = true; out = 0 }) }
+    {
+        let (table, inner) = Table::of_words(alloc, words, size)?;
         let frame = Frame {
             table,
-            pixels,
-            blocks,
+            pixels: size.pixels,
+            blocks: size.blocks,
         };
         Ok((frame, Seat { inner }))
     }

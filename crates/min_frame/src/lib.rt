@@ -4,6 +4,7 @@
 //! the seats are joined, and the closed frame gives the least value plotted on each pixel.
 #![tactic(auto)]
 
+mod empty_words;
 mod frame;
 mod rule;
 mod seat;
@@ -12,6 +13,7 @@ mod tests;
 mod view;
 mod words;
 
+pub use empty_words::EmptyWords;
 pub use frame::{Frame, MOST_BLOCKS, MOST_ENDS, MOST_PIXELS};
 pub use seat::Seat;
 pub use words::FrameWords;

@@ -1,5 +1,6 @@
 ghost use Rattle.std.specs.Prelude.{◌≡◌, ◌<◌, ◌≤◌, length};
 
+use crate::empty_words::EmptyWords;
 use crate::frame::Frame;
 use crate::seat::Seat;
 use crate::words::FrameWords;
@@ -13,7 +14,8 @@ const PLOTS: u64 = 50_000;
 
 #[test]
 fn two_seats_share_three_numbers_and_the_lower_plot_stays(rt: HostRuntime) -> Result<(), Fail> {
-    let (frame, mut root) = Frame::new(rt.alloc(), 2, 3, 2)?;
+    let empty = EmptyWords::none(rt.alloc());
+    let (frame, mut root) = Frame::new(rt.alloc(), &empty, 2, 3, 2)?;
     let mut worker = frame.split(&mut root, 1);
     frame.plot(&mut worker, 0, 9);
     frame.plot(&mut root, 0, 4);
@@ -52,9 +54,11 @@ fn taken<R: Abort>(rt: &R, frame: &Frame, seat: &mut Seat) -> u32
 
 #[test]
 fn halves_that_run_side_by_side_leave_the_least_of_all_plots(rt: HostRuntime) -> Result<(), Fail> {
+    // One frame is as large as the empty words, one is smaller and one larger.
+    let empty = EmptyWords::new(rt.alloc(), 3)?;
     for pixels in [1, 3, 100_000] {
         let blocks = 1000;
-        let (frame, mut root) = Frame::new(rt.alloc(), pixels, blocks, 2)?;
+        let (frame, mut root) = Frame::new(rt.alloc(), &empty, pixels, blocks, 2)?;
         let mut worker = frame.split(&mut root, 1);
         let (one, two) = run_both(&rt, &frame, &mut root, &mut worker, pixels);
         frame.join(&mut root, worker);

@@ -8,6 +8,7 @@ ghost use Rattle.view_meaning.specs.Survey.{record_count, format_of};
 use class_pages::Classes;
 use grid_blocks::Blocks;
 use las_survey::Survey;
+use min_frame::EmptyWords;
 use ppm_out::{HEADER, ppm_header};
 use resolve_colour::colours;
 use splat_workers::nearest_words;
@@ -27,6 +28,8 @@ pub struct Scene {
     pub blocks: Arc<Blocks>,
     /// How many workers draw a picture, 1 to 64. The picture is the same for each number.
     pub workers: u32,
+    /// What the frames of pictures are copied from that have as many pixels or fewer.
+    pub empty: EmptyWords,
 }
 
 /// Appends the whole picture of a survey under these classes, as a binary PPM of
@@ -61,6 +64,7 @@ pub fn picture<R: Threads + Sync, B: Beside>(
         &scene.blocks,
         view,
         scene.workers,
+        &scene.empty,
         beside,
     )?;
     out.reserve(HEADER + 3 * words.len())?;

@@ -7,6 +7,7 @@ use crate::{Reason, Scene, World, serve_session};
 use edit_ops::read_edit;
 use grid_blocks::build;
 use las_survey::{Survey, load};
+use min_frame::EmptyWords;
 use std::alloc::Global;
 use std::process::Abort;
 use std::sync::{Arc, Wait};
@@ -47,6 +48,7 @@ fn world<R: Threads + Sync>(rt: &R, alloc: Global) -> Result<(World, Pass), Fail
         survey,
         blocks,
         workers: 1,
+        empty: EmptyWords::none(alloc),
     };
     Ok((World { scene, shared }, root))
 }

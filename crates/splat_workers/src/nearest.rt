@@ -9,7 +9,7 @@ use class_pages::Classes;
 use cull_boxes::kept;
 use grid_blocks::Blocks;
 use las_survey::Survey;
-use min_frame::{Frame, FrameWords, MOST_BLOCKS};
+use min_frame::{EmptyWords, Frame, FrameWords, MOST_BLOCKS};
 use std::alloc::Global;
 use std::thread::Threads;
 use view_base::OutOfMemory;
@@ -19,8 +19,8 @@ use view_text::ViewSpec;
 /// One word for each pixel, row by row from the top left: the depth of the nearest record that
 /// passes the view's filter above its number, so that the least word is the nearest record and, at
 /// equal depths, the lower number (the packed depth of Schütz et al. 2021), or all ones where no
-/// record that passes falls. So many workers, 1 to 64, draw them side by side; the words don't hang
-/// on how many they are.
+/// record that passes falls. So many workers, 1 to 64, draw them side by side, on a frame that is
+/// copied from the empty words where there are as many; the words hang on neither.
 pub fn nearest_words<R: Threads + Sync, B: Beside>(
     alloc: Global,
     rt: &R,
@@ -29,6 +29,7 @@ pub fn nearest_words<R: Threads + Sync, B: Beside>(
     blocks: &Blocks,
     view: &ViewSpec,
     workers: u32,
+    empty: &EmptyWords,
     beside: &B,
 ) -> Result<FrameWords, OutOfMemory>
     requires workers { (1 ≤ workers) × (workers ≤ 64) }
@@ -53,7 +54,7 @@ pub fn nearest_words<R: Threads + Sync, B: Beside>(
         filter: &view.filter,
         step: step_for(kept.count()),
     };
-    let (frame, root) = Frame::new(alloc, pixels, plan.pieces(), workers)?;
+    let (frame, root) = Frame::new(alloc, empty, pixels, plan.pieces(), workers)?;
     match draw_words(alloc, rt, &plan, &frame, root, workers, beside) {
         Ok(root) => Ok(frame.close(root)),
         Err((refusal, _)) => Err(refusal),

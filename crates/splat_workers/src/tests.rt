@@ -9,7 +9,7 @@ use cull_boxes::kept;
 use grid_blocks::{Blocks, build, build_by_number};
 use int_camera::{Camera, CameraNumbers, Kind};
 use las_survey::{Survey, load};
-use min_frame::{Frame, FrameWords};
+use min_frame::{EmptyWords, Frame, FrameWords};
 use std::alloc::Global;
 use std::hint::spin_loop;
 use std::process::Abort;
@@ -142,8 +142,9 @@ fn word_by<R: Threads + Sync>(
 {
     let classes = base(alloc, survey)?;
     let blocks = build_by_number(alloc, survey)?;
+    let empty = EmptyWords::none(alloc);
     let words = nearest_words(
-        alloc, rt, survey, &classes, &blocks, view, workers, &NoBeside,
+        alloc, rt, survey, &classes, &blocks, view, workers, &empty, &NoBeside,
     )?;
     if pixel < words.len() {
         Ok(Some(words.word(pixel)))
@@ -239,7 +240,8 @@ pub(crate) fn drawn_by<R: Abort + Threads + Sync, B: Beside>(
         step,
     };
     assert!(rt; plan.pieces() == pieces);
-    let (frame, root) = Frame::new(alloc, pixels, pieces, workers)?;
+    let empty = EmptyWords::none(alloc);
+    let (frame, root) = Frame::new(alloc, &empty, pixels, pieces, workers)?;
     match draw_words(alloc, rt, &plan, &frame, root, workers, beside) {
         Ok(root) => Ok(frame.close(root)),
         Err((refusal, _)) => Err(refusal),
@@ -328,8 +330,11 @@ fn draws<R: Abort + Threads + Sync>(
     requires records { length classes.now ≡ record_count survey.now }
     requires blocks { IsBlocks survey.now blocks.now }
 {
-    for workers in [1, 2, 3] {
-        let words = nearest_words(alloc, rt, survey, classes, blocks, view, workers, &NoBeside)?;
+    for (workers, pixels) in [(1, 0), (2, 1), (3, 100_000)] {
+        let empty = EmptyWords::new(alloc, pixels)?;
+        let words = nearest_words(
+            alloc, rt, survey, classes, blocks, view, workers, &empty, &NoBeside,
+        )?;
         assert!(rt; are(&words, wanted));
     }
     Ok(())

@@ -15,6 +15,7 @@ use class_pages::{Classes, base};
 use grid_blocks::{Blocks, build_by_number};
 use las_points::can_colour;
 use las_survey::Survey;
+use min_frame::EmptyWords;
 use sessions::{Scene, picture};
 use std::alloc::Global;
 use std::sync::Arc;
@@ -115,6 +116,7 @@ fn picture_of<R: Threads + Sync, B: Beside>(
         survey: Arc::new(alloc, survey)?,
         blocks: Arc::new(alloc, blocks)?,
         workers,
+        empty: EmptyWords::none(alloc),
     };
     let mut bytes = Bytes::new(alloc);
     picture(alloc, rt, &scene, &classes, view, beside, &mut bytes)?;

@@ -19,6 +19,7 @@ use crate::texts::read_survey;
 use crate::told::{Ended, Told};
 use grid_blocks::build;
 use las_survey::Survey;
+use min_frame::EmptyWords;
 use sessions::{Scene, World};
 use std::alloc::Global;
 use std::sync::{Arc, Wait};
@@ -27,6 +28,9 @@ use version_store::{Pass, Shared};
 use view_base::OutOfMemory;
 use view_ends::{Beside, Desk, Sink, Source};
 use view_words::{Row, pair_count, text_at, workers};
+
+/// How many pixels the words that sessions' frames are copied from are for: those of 1920 by 1080.
+const USUAL_PIXELS: u32 = 1920 * 1080;
 
 /// What the sessions of a run share, and the room for them, which is made before anything is opened
 /// to write.
@@ -79,6 +83,7 @@ fn make_room<R: Threads + Sync, I: Source, O: Sink>(
     let blocks = Arc::new(alloc, build(alloc, rt, workers, &survey)?)?;
     let survey = Arc::new(alloc, survey)?;
     let (shared, root) = Shared::over(alloc, Arc::try_clone(&survey)?, Arc::try_clone(&blocks)?)?;
+    let empty = shared_words(alloc);
     let outcomes = Outcomes::with_room(alloc, count)?;
     let seats = Vec::with_capacity(alloc, count as usize)?;
     Ok(Room {
@@ -87,6 +92,7 @@ fn make_room<R: Threads + Sync, I: Source, O: Sink>(
                 survey,
                 blocks,
                 workers,
+                empty,
             },
             shared,
         },
@@ -94,6 +100,15 @@ fn make_room<R: Threads + Sync, I: Source, O: Sink>(
         seats,
         outcomes,
     })
+}
+
+/// What the sessions' frames are copied from, so that none fills a list of its own. A refusal of its
+/// memory is no answer: frames make their own then.
+fn shared_words(alloc: Global) -> EmptyWords {
+    match EmptyWords::new(alloc, USUAL_PIXELS) {
+        Ok(words) => words,
+        Err(OutOfMemory) => EmptyWords::none(alloc),
+    }
 }
 
 /// Opens all names, and serves the sessions where that is not refused.

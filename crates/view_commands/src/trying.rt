@@ -18,6 +18,7 @@ use crate::summing::summary_text;
 use crate::texts::write_text;
 use grid_blocks::build;
 use las_survey::{LoadFault, Survey, load};
+use min_frame::EmptyWords;
 use sessions::Scene;
 use std::alloc::Global;
 use std::sync::Arc;
@@ -143,6 +144,7 @@ fn scene_of<R: Threads + Sync>(
         survey: Arc::new(alloc, survey)?,
         blocks,
         workers,
+        empty: EmptyWords::none(alloc),
     })
 }
 
