@@ -111,6 +111,14 @@ impl Frame {
             .fetch_min::<Plot>(&mut seat.inner, pixel as usize, value);
     }
 
+    /// Reads the word of `pixel` and tells nothing of it: a plot that comes soon finds it at hand.
+    #[inline]
+    pub fn bring(&self, pixel: u32)
+        requires { pixel < self.now.pixels }
+    {
+        let _word = self.table.shared.peek(pixel as usize);
+    }
+
     /// Claims a number below `blocks` that is above all that this seat claimed, or answers `None`
     /// and uses up one of the seat's ends, in one atomic sum. `close` tells what the claims of all
     /// seats have in common: none is made twice, and a `None` comes only once none is left.

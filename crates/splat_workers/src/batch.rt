@@ -8,9 +8,10 @@ use std::marker::Model;
 /// How many plots wait for one another.
 const ROOM: usize = 64;
 
-/// Plots that wait to be made one right after another, so that the loads of their words overlap: a
-/// load waits for memory some hundred times longer than a plot takes. Contracts see how many pixels
-/// the frame has, and the plots as pixel and value.
+/// Plots that wait to be made one right after another, once their words were all read. A word that
+/// isn't at hand takes some hundred times longer than a plot, and no later word is read while a plot
+/// is made; read beforehand, they come side by side. Contracts see how many pixels the frame has,
+/// and the plots as pixel and value.
 #[derive(Drop)]
 pub(crate) struct Batch {
     plots: [(u32, u64); ROOM],
@@ -60,6 +61,16 @@ impl Batch {
         self.count += 1;
     }
 
+    /// Reads the words of the plots that wait, one right after another.
+    #[inline]
+    fn bring(&self, frame: &Frame)
+        requires pixels { self.now.pixels ≡ frame.now.pixels }
+    {
+        for index in 0..self.count {
+            frame.bring(self.plots[index].0);
+        }
+    }
+
     /// Makes the plots that wait, in their order.
     pub(crate) fn flush(&mut self, frame: &Frame, seat: &mut Seat)
         requires frame { seat.old.frame ≡ frame.now.name }
@@ -67,6 +78,7 @@ impl Batch {
         ensures seat { seat.new ≡ drawn seat.old self.old }
         ensures empty { self.new ≡ record self.old { plots = [] } }
     {
+        self.bring(frame);
         for place in 0..self.count {
             let (pixel, value) = self.plots[place];
             frame.plot(seat, pixel, value);

@@ -139,7 +139,7 @@ fn plot_passing(
 
 /// Plots the record of a number where it stands in the camera's picture: among those that wait, or
 /// at once.
-#[inline]
+#[inline(always)]
 fn plot_point(
     frame: &Frame,
     seat: &mut Seat,
