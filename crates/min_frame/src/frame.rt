@@ -66,7 +66,7 @@ impl Frame {
         };
         match empty.of(pixels) {
             Some(words) => Frame::of(alloc, words, &size),
-            None => Frame::of(alloc, EmptyWords::new(alloc, pixels)?.words(), &size),
+            None => Frame::of(alloc, EmptyWords::new(alloc, pixels)?.all(), &size),
         }
     }
 
