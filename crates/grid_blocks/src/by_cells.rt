@@ -19,7 +19,7 @@ use las_points::xyz;
 use las_survey::Survey;
 use rayon::slice::par_sort_unstable;
 use std::alloc::Global;
-use std::thread::{Threads, join_mut};
+use std::thread::{Threads, join, join_mut};
 use view_base::{Listing, OutOfMemory, Point};
 
 /// The most members of a block.
@@ -60,10 +60,46 @@ fn build_some<R: Threads + Sync>(
     ensures cells { IfOk result (IsByCells survey.now) }
     ensures held { IfOk result (λ blocks. IsSome blocks.copies) }
 {
-    let words = order(alloc, rt, workers, survey)?;
-    let copies = Copies::of(alloc, rt, workers, survey, &words)?;
+    let (words, room) = order_and_room(alloc, rt, workers, survey)?;
+    let copies = room.of(rt, workers, survey, &words);
     let list = blocks_of(alloc, &words, &copies.points)?;
     Ok(Blocks::of_copies(list, copies))
+}
+
+/// The words of all records, rising, and room for the copies of as many, which is made beside them
+/// where there is more than one worker: the system clears each page of it.
+fn order_and_room<R: Threads + Sync>(
+    alloc: Global,
+    rt: &R,
+    workers: u32,
+    survey: &Survey,
+) -> Result<(Vec<u64>, Copies), OutOfMemory>
+    requires some { 1 ≤ record_count survey.now }
+    requires workers { workers ≤ 64 }
+    ensures order { IfOk result (λ made. IsOrder survey.now made.0.items) }
+    ensures size { IfOk result (λ made. length made.0.items ≡ record_count survey.now) }
+    ensures numbers { IfOk result (λ made. All (λ word. word % 2 ^ 26 < record_count survey.now) made.0.items) }
+    ensures room { IfOk result (λ made. length made.1.numbers.items ≡ record_count survey.now) }
+    ensures few { record_count survey.now ≤ 53687091 }
+{
+    let count = survey.records() as usize;
+    if workers < 2 {
+        let words = order(alloc, rt, workers, survey)?;
+        return Ok((words, Copies::zeros(alloc, count)?));
+    }
+    let (words, room) = join(
+        rt,
+        || -> Result<Vec<u64>, OutOfMemory>
+            requires { IsSync R.row × (1 ≤ record_count survey.now) × (workers ≤ 64) }
+            ensures { IfOk result (λ words. IsOrder survey.entry.now words.items
+                × (length words.items ≡ record_count survey.entry.now)
+                × All (λ word. word % 2 ^ 26 < record_count survey.entry.now) words.items) }
+        { order(alloc, rt, workers, survey) },
+        || -> Result<Copies, OutOfMemory>
+            ensures { IfOk result (λ copies. length copies.numbers.items ≡ count) }
+        { Copies::zeros(alloc, count) },
+    );
+    Ok((words?, room?))
 }
 
 /// The words of all records, rising: each has the key of a record's cell above its number.

@@ -38,20 +38,34 @@ impl Copies {
         }
     }
 
-    /// The records that an order's words name, in their order.
+    /// Room for copies of so many records, all 0.
+    pub(crate) fn zeros(alloc: Global, count: usize) -> Result<Copies, OutOfMemory>
+        ensures { IfOk result (λ copies. length copies.numbers.items ≡ count) }
+    {
+        Ok(Copies {
+            numbers: vec![in alloc; 0u32; count]?,
+            points: vec![in alloc; Point { x: 0, y: 0, z: 0 }; count]?,
+            withheld: vec![in alloc; false; count]?,
+        })
+    }
+
+    /// The records that an order's words name, in their order, written into this room.
     pub(crate) fn of<R: Threads + Sync>(
-        alloc: Global,
+        self,
         rt: &R,
         workers: u32,
         survey: &Survey,
         words: &[u64],
-    ) -> Result<Copies, OutOfMemory>
-        requires { All (λ word. word % 2 ^ 26 < record_count survey.now) words.now }
-        ensures { IfOk result (λ copies. AreCopied survey.now words.now copies.numbers.items copies.points.items copies.withheld.items) }
+    ) -> Copies
+        requires size { length self.numbers.items ≡ length words.now }
+        requires named { All (λ word. word % 2 ^ 26 < record_count survey.now) words.now }
+        ensures { AreCopied survey.now words.now result.numbers.items result.points.items result.withheld.items }
     {
-        let mut numbers = vec![in alloc; 0u32; words.len()]?;
-        let mut points = vec![in alloc; Point { x: 0, y: 0, z: 0 }; words.len()]?;
-        let mut withheld = vec![in alloc; false; words.len()]?;
+        let Copies {
+            mut numbers,
+            mut points,
+            mut withheld,
+        } = self;
         write_side_by_side(
             rt,
             workers,
@@ -61,11 +75,11 @@ impl Copies {
             survey,
             words,
         );
-        Ok(Copies {
+        Copies {
             numbers,
             points,
             withheld,
-        })
+        }
     }
 
     /// So many records from a place on.

@@ -19,7 +19,7 @@ pub struct Spot {
 
 /// Where a point shows in a camera's picture, and `None` exactly where it is not in view. Takes no
 /// memory.
-#[inline]
+#[inline(always)]
 pub fn project(camera: &Camera, p: Point) -> Option<Spot>
     ensures spot { result ≡ seen camera.now (spot camera.now p) }
     ensures pixel { IfSome result (λ s. s.pixel < camera.now.width * camera.now.height) }

@@ -1,4 +1,4 @@
-use Rattle.std.proofs.Common.{◌≡◌, ◌∙◌, ◌+◌, ◌<◌, ℕ, arith, refl, length, length-set}
+use Rattle.std.proofs.Common.{◌≡◌, ◌∙◌, ◌+◌, arith, refl, length, length-set}
 use Rattle.view_meaning.specs.Survey.{point_of, record_count}
 use Rattle.view_meaning.proofs.Reading.{point-from_part}
 use Rattle.grid_blocks.specs.Order.{word_of}

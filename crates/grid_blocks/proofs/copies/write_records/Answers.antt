@@ -1,5 +1,5 @@
-use Rattle.std.proofs.Common.{◌∙◌, ◌%◌, ◌^◌, ◌<◌, ℕ, get_or, refl, arith, length-set, false, pos}
-use Rattle.view_meaning.specs.Survey.{point_of, record_count, withheld_of}
+use Rattle.std.proofs.Common.{◌∙◌, ◌%◌, ◌^◌, ℕ, get_or, refl, arith, length-set, false, pos}
+use Rattle.view_meaning.specs.Survey.{point_of, withheld_of}
 use Rattle.view_meaning.proofs.Reading.{point-from_part}
 use Rattle.grid_blocks.proofs.Filling.{filled_none, filled_more, filled_map, withheld-from_part}
 use Rattle.grid_blocks.proofs.copies.write_records.Goals as goal
