@@ -148,7 +148,7 @@ PARTS = [
 BESIDE = (
     "The record says more than the sentence: what the status is, that no other file changes, what holds where no session ran (one name that can't be opened is enough, and outputs that were opened before it are then empty, where the desk tells its files), and that "
     "the run is done, or memory was wanted, where nothing outside failed. By the law `done-whole` of crates/view_commands/proofs/Settled.antt "
-    "a run that is done has every session finished and its input read to its end.",
+    "a run that is done has every session finished, and the input of each read to its end, if the desk tells its file and no earlier session writes it.",
     ["RunsSessions.status", "RunsSessions.files", "NoSession.nothing", "NoSession.untaken", "NoSession.cause", "ServesLine.settled"],
 )
 

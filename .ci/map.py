@@ -6,8 +6,8 @@
 
 A layer is one above the highest crate that a crate lists in crates.txt. Behind each crate of the drawing
 stands what goes through it: a `view`, by the letter v, and an `edit`, by e; these are the crates in the two
-drawings of the ways, which are written by hand. A crate is used by those whose code has a `use` line of it, tests
-aside; one without code by those whose definitions import it. Each crate has to have one paragraph, which begins
+drawings of the ways, which are written by hand. A crate is used by those whose code, tests aside, or whose
+definitions have a `use` line of it or of its definitions. Each crate has to have one paragraph, which begins
 with its name; a name in the drawings that looks like a crate's has to be one; and a name in brackets of
 what a crate promises has to be that of a clause, a function or a definition there or in view_meaning. So has
 each name by which README.md says that something is proved, in some crate.
@@ -20,11 +20,11 @@ from sources import ROOT, between, known_words, settle, source_files, stands_on
 
 PAGE = "docs/ARCHITECTURE.md"
 USED = " *Used by "
-# What nothing stands on: the program and its tests.
-ON_TOP = {"view_main", "acceptance_draw", "acceptance_serve", "acceptance_sessions"}
+# What nothing stands on: the program, and the crates of tests.
+ON_TOP = ("view_main", "acceptance_", "unit_")
 # So many users of a crate are named.
 MOST = 12
-KIT = {"atomic_table", "byteorder", "itoa", "thiserror"}
+KIT = {"atomic_table", "byteorder", "itoa", "rayon", "thiserror"}
 
 
 def layers(below):
@@ -78,12 +78,10 @@ def users(below):
     for crate in below:
         code = [path for path in source_files(crate) if "tests" not in path.stem and "tests" not in path.parent.name]
         used = {name for path in code for name in re.findall(r"^\s*(?:pub )?use (\w+)::", path.read_text(), re.M)}
-        specs = (ROOT / "crates" / crate / "specs").glob("**/*.antt")
-        meant = {name for path in specs for name in re.findall(r"^use Rattle\.(\w+)\.specs", path.read_text(), re.M)}
-        for other in below:
-            has_code = any("fn " in path.read_text() for path in source_files(other))
-            if other != crate and other in (used if has_code else meant):
-                found[other].add(crate)
+        meant = [*code, *(ROOT / "crates" / crate / "specs").glob("**/*.antt")]
+        used |= {name for path in meant for name in re.findall(r"^\s*(?:ghost |pub )?use Rattle\.(\w+)\.specs", path.read_text(), re.M)}
+        for other in used & set(below) - {crate}:
+            found[other].add(crate)
     return {crate: [other for other in below if other in names] for crate, names in found.items()}
 
 
@@ -94,7 +92,7 @@ def with_users(page, below):
         crate = re.match(r"\*\*(\w+)\*\* ", line)
         if crate and crate.group(1) in by:
             name = crate.group(1)
-            lines[number] = line.partition(USED)[0].rstrip() + ("" if name in ON_TOP else f"{USED}{used_by(by[name])}.*")
+            lines[number] = line.partition(USED)[0].rstrip() + ("" if name.startswith(ON_TOP) else f"{USED}{used_by(by[name])}.*")
             seen.add(name)
     if set(by) - seen:
         sys.exit(f"{PAGE} has no paragraph of {', '.join(sorted(set(by) - seen))}")
