@@ -73,31 +73,3 @@ pub fn read_number(word: &[u8]) -> Option<i128>
     }
     Some(read_digits(word)? as i128)
 }
-
-#[cfg(test)]
-mod tests {
-    use super::*;
-
-    #[test]
-    fn a_line_gives_its_words_in_order(rt: HostRuntime) {
-        let line = b" \tedit  7\t";
-        assert_eq!(rt; next_word(line, 0), Some((2, 6)));
-        assert_eq!(rt; next_word(line, 4), Some((4, 6)));
-        assert_eq!(rt; next_word(line, 6), Some((8, 9)));
-        assert_eq!(rt; next_word(line, 9), None);
-    }
-
-    #[test]
-    fn a_number_has_one_to_twenty_digits(rt: HostRuntime) {
-        assert_eq!(rt; read_number(b"007"), Some(7));
-        assert_eq!(rt; read_number(b"-0"), Some(0));
-        assert_eq!(rt;
-            read_number(b"-99999999999999999999"),
-            Some(-99999999999999999999)
-        );
-        assert_eq!(rt; read_number(b"100000000000000000000"), None);
-        assert_eq!(rt; read_number(b"+1"), None);
-        assert_eq!(rt; read_number(b"-"), None);
-        assert_eq!(rt; read_number(b""), None);
-    }
-}

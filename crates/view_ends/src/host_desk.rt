@@ -1,26 +1,36 @@
-ghost use Rattle.std.specs.Prelude.{◌≡◌, ◌+◌, ◌≤◌, None, false, IfSome, vec_capacity, vec_len};
+ghost use Rattle.std.specs.Prelude.{◌≡◌, None, false, IfSome};
+ghost use Rattle.std.specs.Fs.{file_type};
 ghost use Rattle.view_ends.specs.Calls.{IsNew};
 
+use crate::beginning::may_be_survey;
 use crate::desk::Desk;
 use crate::fault::EndFault;
 use crate::host_sink::{HostSink, Target};
 use crate::host_source::{HostSource, Origin};
 use crate::ledger::{Counts, Ledger, NOTHING, OPENED, UNOPENED, UNWRITTEN};
-use crate::opened::{Identity, Opened};
+use crate::opened::{Identity, Mark, Opened};
 use std::alloc::Global;
-use std::fs::{OpenFile, OpenOptions};
+use std::fs::{Metadata, OpenFile, OpenOptions};
 use std::rt::Files;
 use std::{fs, io};
 
 /// The name of standard input and of standard output.
 const STANDARD: &str = "-";
 
+/// A name of the system that leads to what standard input is.
+const INPUT: &str = "/proc/self/fd/0";
+
+/// A name of the system that leads to what standard output is.
+const OUTPUT: &str = "/proc/self/fd/1";
+
 /// The desk of the system: its files, and its standard streams under the name `-`, each of which
 /// can be opened once. It tells no bytes, and counts each error as a fault.
 ///
-/// No regular file that this desk opened by a name other than `-` is opened to write again, by
-/// whatever such name or link, and none is opened to read while it is written: the opening fails. An opening to write leaves a
-/// regular file as it is; the file is cut when its first byte is given or when it is kept.
+/// No regular file that this desk opened, by whatever name or link or as a standard stream, is
+/// opened to write again, and none is opened to read while it is written: the opening fails. Nor
+/// is a regular file opened to write that begins as a survey does. An opening to write leaves a
+/// regular file as it is; the file is cut when its first byte is given or when it is kept. No file
+/// takes the number of a standard stream that is closed.
 #[derive(Drop)]
 pub struct HostDesk<R> {
     rt: R,
@@ -50,75 +60,120 @@ where
 }
 
 impl<R: Files + Input + Print + Copy> HostDesk<R> {
-    ghost use Rattle.view_ends.specs.Opened.{WritesApart};
+    ghost use Rattle.view_ends.specs.Opened.{HasRoom, ReadsApart, WritesApart};
 
-    /// Opens standard input, once.
+    /// Notes what is opened to read, and answers `None` where it is written.
+    fn note_input(&mut self, about: &Metadata) -> Option<Mark>
+        requires { HasRoom self.old.opened }
+        ensures ledger { self.new.ledger ≡ self.old.ledger }
+        ensures kind { IfSome result (λ mark. mark.kind ≡ file_type about.now) }
+        ensures apart { IfSome result (ReadsApart self.old.opened self.new.opened) }
+    {
+        let mark = Mark::of(about);
+        if let Some(file) = mark.file() {
+            if self.opened.is_written(file) {
+                return None;
+            }
+            self.opened.note_read(file);
+        }
+        Some(mark)
+    }
+
+    /// Notes what is opened to write, and answers `None` where it was opened before or may be a
+    /// survey, as a name that leads there shows.
+    fn note_output(&mut self, about: &Metadata, name: &str) -> Option<Mark>
+        requires { HasRoom self.old.opened }
+        ensures ledger { self.new.ledger ≡ self.old.ledger }
+        ensures kind { IfSome result (λ mark. mark.kind ≡ file_type about.now) }
+        ensures apart { IfSome result (WritesApart self.old.opened self.new.opened) }
+    {
+        let mark = Mark::of(about);
+        if let Some(file) = mark.file() {
+            if self.opened.has(file) || may_be_survey(&self.rt, name, file, about) {
+                return None;
+            }
+            self.opened.note_written(file);
+        }
+        Some(mark)
+    }
+
+    /// Notes that what was kept is written no more.
+    fn note_kept(&mut self, file: Option<Identity>)
+        ensures ledger { self.new.ledger ≡ self.old.ledger }
+        ensures files { self.new.opened.files.items ≡ self.old.opened.files.items }
+    {
+        if let Some(file) = file {
+            self.opened.close(file);
+        }
+    }
+
+    /// Opens standard input, once, and answers `None` where it is closed too.
     fn standard_input(&mut self) -> Option<HostSource<R::File, R::Reader>>
+        requires { HasRoom self.old.opened }
         ensures ledger { self.new.ledger ≡ self.old.ledger }
         ensures fresh { IfSome result (λ input. (input.taken ≡ 0) × (input.faults ≡ 0)) }
+        ensures apart { IfSome result (λ input. ReadsApart self.old.opened self.new.opened input.mark) }
     {
         if self.input_opened {
             return None;
         }
+        let about = fs::metadata(&self.rt, INPUT).ok()?;
+        let mark = self.note_input(&about)?;
         self.input_opened = true;
-        Some(HostSource::new(Origin::Standard(self.rt.reader()), 0))
+        Some(HostSource::new(Origin::Standard(self.rt.reader()), mark, 0))
     }
 
-    /// Opens standard output, once.
+    /// Opens standard output, once, and answers `None` where it is closed too.
     fn standard_output(&mut self) -> Option<HostSink<R::File, R>>
+        requires { HasRoom self.old.opened }
         ensures ledger { self.new.ledger ≡ self.old.ledger }
         ensures fresh { IfSome result (λ out. out.faults ≡ 0) }
-        ensures apart { IfSome result (λ out. WritesApart self.old.opened self.new.opened out.file) }
+        ensures apart { IfSome result (λ out. WritesApart self.old.opened self.new.opened out.mark) }
     {
         if self.output_opened {
             return None;
         }
+        let about = fs::metadata(&self.rt, OUTPUT).ok()?;
+        let mark = self.note_output(&about, OUTPUT)?;
         self.output_opened = true;
-        Some(HostSink::new(Target::Standard(self.rt), None))
+        Some(HostSink::new(Target::Standard(self.rt), mark))
     }
 
     /// Opens a name for reading, and answers `None` where that failed or the file is written.
     fn input(&mut self, name: &str) -> Option<HostSource<R::File, R::Reader>>
-        requires { vec_len self.old.opened.uses + 1 ≤ vec_capacity self.old.opened.uses }
+        requires { HasRoom self.old.opened }
         ensures ledger { self.new.ledger ≡ self.old.ledger }
         ensures fresh { IfSome result (λ input. (input.taken ≡ 0) × (input.faults ≡ 0)) }
+        ensures apart { IfSome result (λ input. ReadsApart self.old.opened self.new.opened input.mark) }
     {
         if name == STANDARD {
             return self.standard_input();
         }
-        let file = fs::open(&self.rt, name).ok()?;
+        let file = off_streams(fs::open(&self.rt, name)).ok()?;
         let about = file.metadata().ok()?;
-        let mut length = 0;
-        if let Some(identity) = Identity::of(&about) {
-            if self.opened.is_written(identity) {
-                return None;
-            }
-            self.opened.note(identity, false);
-            length = about.len();
-        }
-        Some(HostSource::new(Origin::File(file), length))
+        let mark = self.note_input(&about)?;
+        let length = match mark.file() {
+            Some(_) => about.len(),
+            None => 0,
+        };
+        Some(HostSource::new(Origin::File(file), mark, length))
     }
 
-    /// Opens a name for writing, and answers `None` where that failed or the file was opened.
+    /// Opens a name for writing, and answers `None` where that failed, the file was opened before
+    /// or it may be a survey.
     fn output(&mut self, name: &str) -> Option<HostSink<R::File, R>>
-        requires { vec_len self.old.opened.uses + 1 ≤ vec_capacity self.old.opened.uses }
+        requires { HasRoom self.old.opened }
         ensures ledger { self.new.ledger ≡ self.old.ledger }
         ensures fresh { IfSome result (λ out. out.faults ≡ 0) }
-        ensures apart { IfSome result (λ out. WritesApart self.old.opened self.new.opened out.file) }
+        ensures apart { IfSome result (λ out. WritesApart self.old.opened self.new.opened out.mark) }
     {
         if name == STANDARD {
             return self.standard_output();
         }
-        let file = open_uncut(&self.rt, name).ok()?;
+        let file = off_streams(open_uncut(&self.rt, name)).ok()?;
         let about = file.metadata().ok()?;
-        let Some(identity) = Identity::of(&about) else {
-            return Some(HostSink::new(Target::File(file), None));
-        };
-        if self.opened.has(identity) {
-            return None;
-        }
-        self.opened.note(identity, true);
-        Some(HostSink::new(Target::File(file), Some(identity)))
+        let mark = self.note_output(&about, name)?;
+        Some(HostSink::new(Target::File(file), mark))
     }
 }
 
@@ -127,6 +182,12 @@ fn open_uncut<R: Files>(rt: &R, name: &str) -> io::Result<R::File> {
     let mut how = OpenOptions::new();
     how.write(true).create(true);
     how.open(rt, name)
+}
+
+/// The same opened file under a number above those of the standard streams: the system gives the
+/// least number that is free, which is a stream's where that was closed.
+fn off_streams<F: OpenFile + Drop>(opened: io::Result<F>) -> io::Result<F> {
+    opened?.try_clone()
 }
 
 impl<R: Files + Input + Print + Copy + Send> Desk for HostDesk<R>
@@ -191,9 +252,7 @@ where
             self.ledger.add(name, Counts::refused(write_faults));
             return Err(EndFault::Failed);
         }
-        if let Some(file) = out.file() {
-            self.opened.close(file);
-        }
+        self.note_kept(out.file());
         let counts = Counts {
             write_faults,
             ..NOTHING
@@ -202,6 +261,3 @@ where
         Ok(())
     }
 }
-
-#[cfg(test)]
-mod tests;

@@ -2,8 +2,9 @@ ghost use Rattle.std.specs.Prelude.{◌≡◌, ◌+◌, ◌-◌, ◌^◌, ◌<�
 ghost use Rattle.std.specs.Io.{WritesAtMost};
 
 use crate::fault::EndFault;
-use crate::opened::Identity;
+use crate::opened::{Identity, Mark};
 use crate::sink::Sink;
+use crate::waiting::wait_for_output;
 use std::fs::OpenFile;
 use std::io;
 use std::io::{Error, ErrorKind, Write};
@@ -16,7 +17,20 @@ pub(crate) enum Target<F, P> {
 }
 
 impl<F: Write, P: Print> Target<F, P> {
-    /// One write, made again as long as signals cut it short.
+    /// Whether a write that ended so is made again: a signal cut it short, or standard output took
+    /// nothing at once, and has been waited for.
+    fn goes_on(&self, error: &Error) -> bool {
+        match error.kind() {
+            ErrorKind::Interrupted => true,
+            ErrorKind::WouldBlock if matches!(self, Target::Standard(_)) => {
+                wait_for_output();
+                true
+            }
+            _ => false,
+        }
+    }
+
+    /// One write, made again as long as signals cut it short or standard output takes nothing.
     fn write_again(&mut self, piece: &[u8]) -> io::Result<usize>
         ensures { WritesAtMost result piece.now }
     {
@@ -26,7 +40,7 @@ impl<F: Write, P: Print> Target<F, P> {
                 Target::Standard(printer) => printer.write_some(piece),
             };
             match answer {
-                Err(error) if error.kind() == ErrorKind::Interrupted => {}
+                Err(error) if self.goes_on(&error) => {}
                 answer => return answer,
             }
         }
@@ -36,34 +50,35 @@ impl<F: Write, P: Print> Target<F, P> {
 
 /// An opened output of the system, without a buffer. It tells no bytes, counts each error as a
 /// fault and a write that takes nothing too, and writes again where a signal cut a write short. A
-/// regular file is cut when its first byte is given or when it is kept, and not before.
+/// regular file is cut when its first byte is given or when it is kept, and not before; when it is
+/// kept, the system is told to store it.
 #[derive(Drop)]
 pub struct HostSink<F, P> {
     target: Target<F, P>,
-    file: Option<Identity>,
+    mark: Mark,
     uncut: bool,
     faults: u64,
 }
 
 impl<F: Write + OpenFile, P: Print> HostSink<F, P> {
-    /// An output that got nothing yet, and which regular file it is.
-    pub(crate) fn new(target: Target<F, P>, file: Option<Identity>) -> HostSink<F, P>
-        ensures file { result.file ≡ file }
+    /// An output that got nothing yet, and what the system tells of it.
+    pub(crate) fn new(target: Target<F, P>, mark: Mark) -> HostSink<F, P>
+        ensures mark { result.mark ≡ mark }
         ensures faults { result.faults ≡ 0 }
     {
         HostSink {
             target,
-            file,
-            uncut: file.is_some(),
+            mark,
+            uncut: mark.file().is_some(),
             faults: 0,
         }
     }
 
     /// The regular file that is written.
     pub(crate) fn file(&self) -> Option<Identity>
-        ensures { result ≡ self.now.file }
+        ensures { result ≡ self.now.mark.file }
     {
-        self.file
+        self.mark.file()
     }
 
     pub(crate) fn faults(&self) -> u64
@@ -95,14 +110,25 @@ impl<F: Write + OpenFile, P: Print> HostSink<F, P> {
         self.target.write_again(piece)
     }
 
-    /// Hands on whatever a writer of the system still holds back, and leaves an output that got
-    /// nothing empty. Standard output holds nothing.
+    /// Leaves an output that got nothing empty, and lets the system store a regular file, so that
+    /// it outlasts a loss of power. Standard output, pipes and devices hold nothing back.
     pub(crate) fn finish(&mut self) -> io::Result<()> {
         self.cut()?;
         match &mut self.target {
-            Target::File(file) => file.flush(),
+            Target::File(file) => {
+                file.flush()?;
+                store(file, self.mark)
+            }
             Target::Standard(_) => Ok(()),
         }
+    }
+}
+
+/// Lets the system store what a regular file got. Whatever else was opened isn't asked.
+fn store<F: OpenFile>(file: &F, mark: Mark) -> io::Result<()> {
+    match mark.file() {
+        Some(_) => file.sync_all(),
+        None => Ok(()),
     }
 }
 

@@ -2,7 +2,9 @@ ghost use Rattle.std.specs.Prelude.{◌≡◌, ◌+◌, ◌-◌, ◌^◌, ◌<�
 ghost use Rattle.std.specs.Io.{ReadsAtMost};
 
 use crate::fault::Failed;
+use crate::opened::Mark;
 use crate::source::Source;
+use crate::waiting::wait_for_input;
 use std::io;
 use std::io::{Error, ErrorKind, Read};
 
@@ -20,7 +22,20 @@ pub(crate) enum Origin<F, I> {
 }
 
 impl<F: Read, I: Read> Origin<F, I> {
-    /// One read, made again as long as signals cut it short.
+    /// Whether a read that ended so is made again: a signal cut it short, or standard input had
+    /// nothing yet, and has been waited for.
+    fn goes_on(&self, error: &Error) -> bool {
+        match error.kind() {
+            ErrorKind::Interrupted => true,
+            ErrorKind::WouldBlock if matches!(self, Origin::Standard(_)) => {
+                wait_for_input();
+                true
+            }
+            _ => false,
+        }
+    }
+
+    /// One read, made again as long as signals cut it short or standard input has nothing yet.
     fn read_again(&mut self, buf: &mut [u8]) -> io::Result<usize>
         ensures { ReadsAtMost result buf.new }
     {
@@ -30,7 +45,7 @@ impl<F: Read, I: Read> Origin<F, I> {
                 Origin::Standard(input) => input.read(buf),
             };
             match answer {
-                Err(error) if error.kind() == ErrorKind::Interrupted => {}
+                Err(error) if self.goes_on(&error) => {}
                 answer => return answer,
             }
         }
@@ -43,6 +58,7 @@ impl<F: Read, I: Read> Origin<F, I> {
 #[derive(Drop)]
 pub struct HostSource<F, I> {
     origin: Origin<F, I>,
+    mark: Mark,
     length: u64,
     taken: u64,
     faults: u64,
@@ -50,13 +66,16 @@ pub struct HostSource<F, I> {
 }
 
 impl<F: Read, I: Read> HostSource<F, I> {
-    /// An input of which nothing was taken yet, whose length is 0 where the system knows none.
-    pub(crate) fn new(origin: Origin<F, I>, length: u64) -> HostSource<F, I>
+    /// An input of which nothing was taken yet, and what the system tells of it. Its length is 0
+    /// where the system knows none.
+    pub(crate) fn new(origin: Origin<F, I>, mark: Mark, length: u64) -> HostSource<F, I>
+        ensures mark { result.mark ≡ mark }
         ensures taken { result.taken ≡ 0 }
         ensures faults { result.faults ≡ 0 }
     {
         HostSource {
             origin,
+            mark,
             length,
             taken: 0,
             faults: 0,

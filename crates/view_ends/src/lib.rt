@@ -3,6 +3,7 @@
 //! and how often it failed.
 #![tactic(auto)]
 
+mod beginning;
 mod beside;
 mod desk;
 mod failing;
@@ -23,6 +24,7 @@ mod source;
 mod still_desk;
 mod still_sink;
 mod still_source;
+mod waiting;
 
 pub use beside::{Beside, NoBeside};
 pub use desk::Desk;

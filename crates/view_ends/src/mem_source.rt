@@ -74,25 +74,3 @@ impl Source for MemSource {
         self.still.expected()
     }
 }
-
-#[cfg(test)]
-mod tests {
-    use super::*;
-    use std::test::Fail;
-
-    #[test]
-    fn a_take_stops_at_the_place_that_fails(rt: HostRuntime) -> Result<(), Fail> {
-        let mut bytes = Bytes::new(rt.alloc());
-        bytes.append(b"bytes")?;
-        let mut fail_at = Places::new(rt.alloc());
-        fail_at.push(3)?;
-        let mut source = MemSource::new(bytes, fail_at);
-        let mut buf = [0; 8];
-        assert_eq!(rt; source.take(&mut buf), Ok(3));
-        assert_eq!(rt; source.take(&mut buf), Err(Failed));
-        assert_eq!(rt; source.take(&mut buf), Ok(2));
-        assert_eq!(rt; &buf[..2], b"es".as_slice());
-        assert_eq!(rt; source.take(&mut buf), Ok(0));
-        Ok(())
-    }
-}

@@ -1,7 +1,8 @@
-ghost use Rattle.std.specs.Prelude.{◌≡◌, ◌↔◌, ◌+◌, ◌<◌, ◌≤◌, ◌++◌, ◌∷◌, [], IfSome, IsTrue, OnOk, vec_capacity, vec_len};
+ghost use Rattle.std.specs.Prelude.{◌≡◌, ◌↔◌, ◌++◌, ◌∷◌, [], IsPermutation, IsSome, IsTrue, MatchOption, OnOk, Some, slice_get};
+ghost use Rattle.std.specs.Fs.{file_type, IsFile};
 
 use std::alloc::Global;
-use std::fs::Metadata;
+use std::fs::{FileType, Metadata};
 use std::os::unix::fs::MetadataExt;
 use view_base::OutOfMemory;
 
@@ -13,51 +14,72 @@ pub(crate) struct Identity {
     number: u64,
 }
 
-impl Identity {
-    /// The identity of a regular file, and `None` of whatever else was opened.
-    pub(crate) fn of(about: &Metadata) -> Option<Identity> {
-        if !about.is_file() {
-            return None;
-        }
-        Some(Identity {
-            device: about.dev(),
-            number: about.ino(),
-        })
-    }
+/// What the system tells of an opened end: its kind, and which file it is where that is a regular
+/// one.
+#[derive(Clone, Copy, Debug)]
+pub(crate) struct Mark {
+    kind: FileType,
+    file: Option<Identity>,
+    ghost marked: { IsSome file ↔ IsFile kind },
 }
 
-/// A regular file that was opened, and whether it is being written.
-#[derive(Clone, Copy, Debug, PartialEq, Eq)]
-struct Use {
-    file: Identity,
-    writing: bool,
+impl Mark {
+    /// The mark of what was opened.
+    pub(crate) fn of(about: &Metadata) -> Mark
+        ensures { result.kind ≡ file_type about.now }
+    {
+        let kind = about.file_type();
+        if !kind.is_file() {
+            return Mark { kind, file: None };
+        }
+        let file = Identity {
+            device: about.dev(),
+            number: about.ino(),
+        };
+        Mark {
+            kind,
+            file: Some(file),
+        }
+    }
+
+    /// Which regular file was opened.
+    pub(crate) fn file(&self) -> Option<Identity>
+        ensures file { result ≡ self.now.file }
+        ensures regular { IsSome result ↔ IsFile self.now.kind }
+    {
+        self.file
+    }
 }
 
 /// The regular files that a desk opened. They stay noted for as long as the desk stands: what was
 /// read and shut, as the survey of a picture, may still not be written under another name.
 #[derive(Drop)]
 pub(crate) struct Opened {
-    uses: Vec<Use>,
+    files: Vec<Identity>,
+    written: Vec<Identity>,
 }
 
 impl Opened {
-    ghost use Rattle.view_ends.specs.Opened.{IsWritten, StaysNoted, WasOpened};
+    ghost use Rattle.view_ends.specs.Opened.{HasRoom, IsWritten, StaysNoted, WasOpened};
 
     /// No file was opened.
     pub(crate) fn new(alloc: Global) -> Opened
-        ensures { result.uses.items ≡ [] }
+        ensures { result.files.items ≡ [] }
     {
         Opened {
-            uses: Vec::new(alloc),
+            files: Vec::new(alloc),
+            written: Vec::new(alloc),
         }
     }
 
     /// Makes room for one more file.
     pub(crate) fn reserve(&mut self) -> Result<(), OutOfMemory>
-        ensures same { self.new.uses.items ≡ self.old.uses.items }
-        ensures room { OnOk result (vec_len self.new.uses + 1 ≤ vec_capacity self.new.uses) }
+        ensures files { self.new.files.items ≡ self.old.files.items }
+        ensures written { self.new.written.items ≡ self.old.written.items }
+        ensures room { OnOk result (HasRoom self.new) }
     {
-        self.uses.reserve(1)?;
+        self.files.reserve(1)?;
+        self.written.reserve(1)?;
         Ok(())
     }
 
@@ -65,44 +87,55 @@ impl Opened {
     pub(crate) fn has(&self, file: Identity) -> bool
         ensures { IsTrue result ↔ WasOpened self.now file }
     {
-        self.uses.iter().any(|noted| noted.file == file)
+        self.files.contains(&file)
     }
 
     /// Whether this file is being written.
     pub(crate) fn is_written(&self, file: Identity) -> bool
         ensures { IsTrue result ↔ IsWritten self.now file }
     {
-        self.uses
-            .iter()
-            .any(|noted| noted.file == file && noted.writing)
+        self.written.contains(&file)
     }
 
-    /// Notes a file that was opened, for which there is room.
-    pub(crate) fn note(&mut self, file: Identity, writing: bool)
-        requires { vec_len self.old.uses + 1 ≤ vec_capacity self.old.uses }
-        ensures added { self.new.uses.items ≡ self.old.uses.items ++ record { file = file; writing = writing } ∷ [] }
+    /// Notes a file that was opened to read, for which there is room.
+    pub(crate) fn note_read(&mut self, file: Identity)
+        requires { HasRoom self.old }
+        ensures files { self.new.files.items ≡ self.old.files.items ++ file ∷ [] }
         ensures opened { WasOpened self.new file }
-        ensures written { IsTrue writing → IsWritten self.new file }
+        ensures written { self.new.written.items ≡ self.old.written.items }
         ensures noted { StaysNoted self.old self.new }
     {
-        let _ = self.uses.push(Use { file, writing });
+        let _ = self.files.push(file);
     }
 
-    /// Notes that this file is written no more, so that it may be read.
+    /// Notes a file that was opened to write, for which there is room.
+    pub(crate) fn note_written(&mut self, file: Identity)
+        requires { HasRoom self.old }
+        ensures files { self.new.files.items ≡ self.old.files.items ++ file ∷ [] }
+        ensures written { self.new.written.items ≡ self.old.written.items ++ file ∷ [] }
+        ensures opened { WasOpened self.new file }
+        ensures is_written { IsWritten self.new file }
+        ensures noted { StaysNoted self.old self.new }
+    {
+        let _ = self.files.push(file);
+        let _ = self.written.push(file);
+    }
+
+    /// The index of the first note that this file is being written.
+    fn index_of(&self, file: Identity) -> Option<usize>
+        ensures { MatchOption result (¬ IsWritten self.now file) (λ i. slice_get self.now.written.items i ≡ Some file) }
+    {
+        self.written.iter().position(|noted| *noted == file)
+    }
+
+    /// Notes that this file is written no more, so that it may be read. All others stay as noted.
     pub(crate) fn close(&mut self, file: Identity)
-        ensures { vec_len self.new.uses ≡ vec_len self.old.uses }
+        ensures files { self.new.files.items ≡ self.old.files.items }
+        ensures closed { IsWritten self.old file → IsPermutation self.old.written.items (file ∷ self.new.written.items) }
+        ensures others { ¬ IsWritten self.old file → self.new.written.items ≡ self.old.written.items }
     {
         if let Some(i) = self.index_of(file) {
-            self.uses[i].writing = false;
+            let _ = self.written.remove(i);
         }
-    }
-
-    /// The index of the first note on a file that is being written.
-    fn index_of(&self, file: Identity) -> Option<usize>
-        ensures { IfSome result (λ i. i < vec_len self.now.uses) }
-    {
-        self.uses
-            .iter()
-            .position(|noted| noted.file == file && noted.writing)
     }
 }
