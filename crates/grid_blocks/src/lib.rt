@@ -10,6 +10,7 @@ mod copies;
 mod grid;
 mod least_box;
 mod sharing;
+mod sorting;
 #[cfg(test)]
 mod tests;
 
