@@ -11,8 +11,6 @@ mod grid;
 mod least_box;
 mod sharing;
 mod sorting;
-#[cfg(test)]
-mod tests;
 
 pub use block::{Block, BlockRecords};
 pub use blocks::Blocks;
