@@ -6,8 +6,6 @@ mod boxes;
 mod cull;
 mod kept_blocks;
 mod narrow;
-#[cfg(test)]
-mod tests;
 mod wide;
 
 pub use boxes::outside;

@@ -7,9 +7,8 @@ use Rattle.std.proofs.lemmas.Int.{ints}
 use Rattle.std.proofs.lemmas.Bool.{and_parts, and_from}
 use Rattle.std.proofs.lemmas.List.{get_or_append_left, length-append, take_more}
 use Rattle.std.proofs.lemmas.List.FromFn.{map-range_with_len_more, length-map-range_with_len, get_or-map-range_with_len}
-use Rattle.std.proofs.lemmas.List.Elements.{All-push, All-weaker, All-cons, All-nil, All-append}
+use Rattle.std.proofs.lemmas.List.Elements.{All-push, All-weaker, All-cons, All-nil, All-append, Contains-append_right}
 use Rattle.std.proofs.lemmas.List.Quantifiers.{Any-push}
-use Rattle.rayon.proofs.ListFacts.{Any-append_right}
 use lib.Signed.{le_z}
 use Rattle.view_base.specs.declared.place.Point.{Point}
 use Rattle.view_base.specs.declared.place.Box3.{Box3}
@@ -17,6 +16,12 @@ use Rattle.view_meaning.specs.Survey.{point_of}
 use Rattle.view_meaning.specs.Classes.{in_box}
 use Rattle.grid_blocks.specs.LeastBox.{IsLeastBox}
 use Rattle.grid_blocks.proofs.Filling.{made-halves}
+
+-- what one of some later items has, one of all has
+Any-append_right : {X : Type 0} (P : X → Type 0) (xs ys : List X) → Any P ys → Any P (xs ++ ys)
+Any-append_right P xs ys some =
+    let inside = Contains-append_right xs ys some.1 (some.0, some.2, some.3) in
+    (inside.0, some.1, inside.1, inside.2, some.4)
 
 -- a point lies in a box, coordinate by coordinate
 pub record IsInside (area : Box3) (p : Point) : Type 0 where

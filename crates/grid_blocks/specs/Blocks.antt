@@ -1,5 +1,5 @@
 -- The records of a survey in blocks.
-use Rattle.std.specs.Prelude.{◌≡◌, ℕ, ◌+◌, ◌≤◌, Bool, List, [], ◌∷◌, map, take, drop, Option, Some, None, IfSome}
+use Rattle.std.specs.Prelude.{◌≡◌, ℕ, ◌+◌, ◌≤◌, Bool, List, [], ◌∷◌, map, slice_get, take, drop, Option, Some, None, IfSome}
 use Rattle.std.specs.List.{All, range_with_len}
 use Rattle.std.specs.List.Sorted.{IsPermutation}
 use Rattle.view_base.specs.declared.place.Point.{Point}
@@ -45,6 +45,14 @@ pub record IsBlocks (b : List ℕ) (blocked : Blocked) : Type 0 where
   pub cut : IsCut blocked.blocks (record_count b)
   pub areas : All (λ block. IsLeastBox (map (point_of b) (part block blocked.members)) block.area) blocked.blocks
   pub copies : IfSome blocked.copies (IsCopied b blocked.members)
+
+-- numbers are those of the records in block k
+abbrev pub AreInBlock : Blocked → ℕ → List ℕ → Type 0
+AreInBlock blocked k numbers = (block : Block) → slice_get blocked.blocks k ≡ Some block → numbers ≡ part block blocked.members
+
+-- items are what a field tells of records by their numbers, in the survey of these blocks
+abbrev pub AreTold : {A : Type 0} → (List ℕ → ℕ → A) → Blocked → List ℕ → List A → Type 0
+AreTold field blocked numbers items = (b : List ℕ) → IsBlocks b blocked → items ≡ map (field b) numbers
 
 -- the members of blocks that hold these copies, or of blocks of so many records in the order of numbers
 abbrev pub members_of : ℕ → Option Copies → List ℕ

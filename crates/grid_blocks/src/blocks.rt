@@ -1,7 +1,6 @@
-ghost use Rattle.std.specs.Prelude.{◌≡◌, ◌+◌, ◌<◌, ◌≤◌, ◌^◌, IfNone, IfSome, IsSome, List, None, Some, [], is_some, length, map, slice_get, slice_index, ℕ};
+ghost use Rattle.std.specs.Prelude.{◌≡◌, ◌+◌, ◌<◌, ◌≤◌, ◌^◌, IfNone, IfSome, IsSome, None, Some, [], is_some, length, slice_get, slice_index};
 ghost use Rattle.std.specs.List.{range_with_len};
-ghost use Rattle.grid_blocks.specs.Blocks.{IsBlocks, IsCut, part};
-ghost use Rattle.grid_blocks.specs.declared.block.Block as block;
+ghost use Rattle.grid_blocks.specs.Blocks.{AreInBlock, AreTold, IsCut};
 ghost use Rattle.view_meaning.specs.Survey.{point_of, withheld_of};
 
 use crate::block::{Block, BlockRecords};
@@ -111,9 +110,9 @@ impl Blocks {
     pub fn records(&self, k: u32) -> Option<BlockRecords<'_>>
         requires { k < length self.now.blocks }
         ensures held { is_some result ≡ is_some self.now.copies }
-        ensures numbers { IfSome result (λ records. (block : block.Block) → slice_get self.now.blocks k ≡ Some block → records.numbers.now ≡ part block self.now.members) }
-        ensures points { IfSome result (λ records. (b : List ℕ) → IsBlocks b self.now → records.points.now ≡ map (point_of b) records.numbers.now) }
-        ensures withheld { IfSome result (λ records. (b : List ℕ) → IsBlocks b self.now → records.withheld.now ≡ map (withheld_of b) records.numbers.now) }
+        ensures numbers { IfSome result (λ records. AreInBlock self.now k records.numbers.now) }
+        ensures points { IfSome result (λ records. AreTold point_of self.now records.numbers.now records.points.now) }
+        ensures withheld { IfSome result (λ records. AreTold withheld_of self.now records.numbers.now records.withheld.now) }
         ensures none { IfNone result (self.now.members ≡ range_with_len 0 (length self.now.members)) }
     {
         let block = self.list.at(k as usize);

@@ -1,12 +1,10 @@
-ghost use Rattle.std.specs.Prelude.{◌≡◌, ℕ, ◌+◌, ◌/◌, ◌%◌, ◌<◌, ◌≤◌, ◌^◌, ◌≢◌, All, IfOk, IsSome, List, OnOk, [], length, map, slice_index};
+ghost use Rattle.std.specs.Prelude.{◌≡◌, ℕ, ◌+◌, ◌/◌, ◌%◌, ◌<◌, ◌≤◌, ◌^◌, ◌≢◌, All, IfOk, IsSome, List, OnOk, [], length, map, min, slice_index};
 ghost use Rattle.std.specs.List.{range_with_len};
-ghost use Rattle.std.specs.List.Sorted.{IsPermutation, IsSorted};
-ghost use Rattle.std.specs.Ordering.{nat_cmp};
 ghost use Rattle.std.specs.Thread.{IsSync};
 ghost use Rattle.grid_blocks.specs.Blocks.{IsBlocks, IsCut, part};
 ghost use Rattle.grid_blocks.specs.Cells.{IsByCells, IsRun};
 ghost use Rattle.grid_blocks.specs.LeastBox.{IsLeastBox};
-ghost use Rattle.grid_blocks.specs.Order.{CanOrder, IsOrder, word_of};
+ghost use Rattle.grid_blocks.specs.Order.{CanOrder, IsOrder, words_from};
 ghost use Rattle.view_meaning.specs.Survey.{point_of, record_count};
 
 use crate::block::Block;
@@ -15,9 +13,9 @@ use crate::copies::{Copies, NUMBER_BITS};
 use crate::grid::Grid;
 use crate::least_box::{box_of_points, box_side_by_side};
 use crate::sharing::{SHARED, front_share};
+use crate::sorting::sort;
 use las_points::xyz;
 use las_survey::Survey;
-use rayon::slice::par_sort_unstable;
 use std::alloc::Global;
 use std::thread::{Threads, join, join_mut};
 use view_base::{Listing, OutOfMemory, Point};
@@ -122,18 +120,6 @@ fn order<R: Threads + Sync>(
     Ok(words)
 }
 
-/// Sorts words, by threads where there is more than one worker.
-fn sort<R: Threads + Sync>(rt: &R, workers: u32, words: &mut Vec<u64>)
-    ensures permutation { IsPermutation words.old.items words.new.items }
-    ensures sorted { IsSorted nat_cmp words.new.items }
-{
-    if workers < 2 {
-        words.sort_unstable();
-    } else {
-        par_sort_unstable(rt, words);
-    }
-}
-
 /// The word of each record, in the order of numbers.
 fn words_of<R: Threads + Sync>(
     alloc: Global,
@@ -143,7 +129,7 @@ fn words_of<R: Threads + Sync>(
     grid: &Grid,
 ) -> Result<Vec<u64>, OutOfMemory>
     requires around { IsLeastBox (map (point_of survey.now) (range_with_len 0 (record_count survey.now))) grid.now.area }
-    ensures { IfOk result (λ words. words.items ≡ map (word_of survey.now grid.now.area grid.now.exponent) (range_with_len 0 (record_count survey.now))) }
+    ensures { IfOk result (λ words. words.items ≡ words_from survey.now grid.now.area grid.now.exponent 0 (record_count survey.now)) }
 {
     let mut words = vec![in alloc; 0u64; survey.records() as usize]?;
     write_side_by_side(rt, workers, &mut words, survey, grid, 0);
@@ -162,7 +148,7 @@ fn write_side_by_side<R: Threads + Sync>(
     first: u32,
 )
     requires { CanOrder survey.now grid.now.area first words.old }
-    ensures { words.new ≡ map (word_of survey.now grid.now.area grid.now.exponent) (range_with_len first (length words.old)) }
+    ensures { words.new ≡ words_from survey.now grid.now.area grid.now.exponent first (length words.old) }
 {
     if workers < 2 || words.len() < SHARED {
         write_words(words, survey, grid, first);
@@ -188,8 +174,8 @@ fn write_both<R: Threads + Sync>(
     requires workers { 2 ≤ workers }
     requires front { CanOrder survey.now grid.now.area first front.old }
     requires back { CanOrder survey.now grid.now.area mid back.old }
-    ensures front { front.new ≡ map (word_of survey.now grid.now.area grid.now.exponent) (range_with_len first (length front.old)) }
-    ensures back { back.new ≡ map (word_of survey.now grid.now.area grid.now.exponent) (range_with_len mid (length back.old)) }
+    ensures front { front.new ≡ words_from survey.now grid.now.area grid.now.exponent first (length front.old) }
+    ensures back { back.new ≡ words_from survey.now grid.now.area grid.now.exponent mid (length back.old) }
 {
     let front_workers = workers / 2;
     let back_workers = workers - front_workers;
@@ -197,11 +183,11 @@ fn write_both<R: Threads + Sync>(
         rt,
         &mut ||
             requires { IsSync R.row × CanOrder survey.now grid.now.area first front.now }
-            ensures { front.exit.now ≡ map (word_of survey.entry.now grid.entry.now.area grid.entry.now.exponent) (range_with_len first (length front.entry.now)) }
+            ensures { front.exit.now ≡ words_from survey.entry.now grid.entry.now.area grid.entry.now.exponent first (length front.entry.now) }
         { write_side_by_side(rt, front_workers, front, survey, grid, first) },
         &mut ||
             requires { IsSync R.row × CanOrder survey.now grid.now.area mid back.now }
-            ensures { back.exit.now ≡ map (word_of survey.entry.now grid.entry.now.area grid.entry.now.exponent) (range_with_len mid (length back.entry.now)) }
+            ensures { back.exit.now ≡ words_from survey.entry.now grid.entry.now.area grid.entry.now.exponent mid (length back.entry.now) }
         { write_side_by_side(rt, back_workers, back, survey, grid, mid) },
     );
 }
@@ -209,7 +195,7 @@ fn write_both<R: Threads + Sync>(
 /// Writes the words of the records from a number on.
 fn write_words(words: &mut [u64], survey: &Survey, grid: &Grid, first: u32)
     requires { CanOrder survey.now grid.now.area first words.old }
-    ensures { words.new ≡ map (word_of survey.now grid.now.area grid.now.exponent) (range_with_len first (length words.old)) }
+    ensures { words.new ≡ words_from survey.now grid.now.area grid.now.exponent first (length words.old) }
 {
     for place in 0..words.len() {
         let i = first + place as u32;
@@ -218,8 +204,14 @@ fn write_words(words: &mut [u64], survey: &Survey, grid: &Grid, first: u32)
     }
 }
 
-/// The blocks of records with these words at these points. There are at most 2^18 keys, so that
-/// the room for the blocks is made once.
+/// The most blocks that so many records can make, with at most 2^18 keys.
+fn most_blocks(records: usize) -> usize
+    ensures { result ≡ min records (2 ^ 18 + records / 1024) }
+{
+    records.min((1 << 18) + records / MOST)
+}
+
+/// The blocks of records with these words at these points. The room for them is made once.
 fn blocks_of(alloc: Global, words: &[u64], points: &[Point]) -> Result<Listing<Block>, OutOfMemory>
     requires size { length points.now ≡ length words.now }
     requires few { length words.now < 2 ^ 32 }
@@ -228,7 +220,7 @@ fn blocks_of(alloc: Global, words: &[u64], points: &[Point]) -> Result<Listing<B
     ensures runs { IfOk result (λ list. All (IsRun (λ place. slice_index words.now place / 2 ^ 26) (length words.now)) list.items) }
 {
     let mut list = Listing::new(alloc);
-    list.reserve(words.len().min((1 << 18) + words.len() / MOST))?;
+    list.reserve(most_blocks(words.len()))?;
     cut(words, points, &mut list)?;
     Ok(list)
 }

@@ -1,4 +1,4 @@
-ghost use Rattle.std.specs.Prelude.{◌≡◌, ◌+◌, ◌<◌, ◌≤◌, All, IfOk, None, OnOk, [], map};
+ghost use Rattle.std.specs.Prelude.{◌≡◌, ◌+◌, ◌*◌, ◌<◌, ◌≤◌, All, IfOk, None, OnOk, [], map};
 ghost use Rattle.std.specs.List.{range_with_len};
 ghost use Rattle.grid_blocks.specs.Blocks.{IsBlocks, IsCut};
 ghost use Rattle.grid_blocks.specs.LeastBox.{IsLeastBox};
@@ -21,9 +21,17 @@ pub fn build_by_number(alloc: Global, survey: &Survey) -> Result<Blocks, OutOfMe
     ensures none { IfOk result (λ blocks. blocks.copies ≡ None) }
 {
     let mut list = Listing::new(alloc);
-    list.reserve((survey.records() as usize).div_ceil(MOST))?;
+    list.reserve(block_count(survey.records()))?;
     cut(survey, &mut list)?;
     Ok(Blocks::of_numbers(list, survey.records()))
+}
+
+/// How many blocks so many records make.
+fn block_count(records: u32) -> usize
+    ensures enough { records ≤ 1024 * result }
+    ensures few { 1024 * result < records + 1024 }
+{
+    (records as usize).div_ceil(MOST)
 }
 
 /// Appends the blocks in the order of numbers.

@@ -10,8 +10,7 @@ mod copies;
 mod grid;
 mod least_box;
 mod sharing;
-#[cfg(test)]
-mod tests;
+mod sorting;
 
 pub use block::{Block, BlockRecords};
 pub use blocks::Blocks;

@@ -7,8 +7,6 @@ mod division;
 mod half_space;
 mod numbers;
 mod projection;
-#[cfg(test)]
-mod tests;
 
 pub use camera::Camera;
 pub use half_space::{HalfSpace, half_spaces};

@@ -1,9 +1,6 @@
 //! The fields of one point data record (LAS 1.4 R15, point data record formats 0 to 10).
 #![tactic(auto)]
 
-#[cfg(test)]
-mod tests;
-
 ghost use Rattle.std.specs.Prelude.{◌≡◌, ◌+◌, ◌≤◌, length, IfSome};
 ghost use Rattle.std.specs.Option.{option_map};
 ghost use Rattle.view_meaning.specs.Layout.{least_length};

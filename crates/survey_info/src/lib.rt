@@ -3,8 +3,6 @@
 #![tactic(auto)]
 
 mod summary;
-#[cfg(test)]
-mod tests;
 mod text;
 
 pub use summary::Summary;

@@ -4,7 +4,5 @@
 mod draws;
 mod making;
 mod record;
-#[cfg(test)]
-mod tests;
 
 pub use making::make;

@@ -1,2 +1,3 @@
 pub mod CommandOf
+pub mod HoldingOf
 pub mod Rooms

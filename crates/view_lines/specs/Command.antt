@@ -1,6 +1,6 @@
 -- The commands of a session's lines: `view` and the words of a view, `edit` and the words of an edit, `count` and the
 -- words of a filter, and `save`.
-use Rattle.std.specs.Prelude.{◌≡◌, ℕ, ◌≤◌, ◌==◌, ◌&&◌, true, List, [], ◌∷◌, length, codes, Result, Ok, Err, if◌then◌else◌}
+use Rattle.std.specs.Prelude.{◌≡◌, ℕ, ◌≤◌, ◌==◌, ◌&&◌, true, List, [], ◌∷◌, length, codes, Option, Some, None, Result, Ok, Err, if◌then◌else◌}
 use Rattle.std.specs.Str.{bytes_eq}
 use Rattle.std.specs.Result.{result_map_both}
 use Rattle.view_meaning.specs.Picture as picture
@@ -13,8 +13,10 @@ use Rattle.edit_ops.specs.declared.fault.EditFault.TheVariants as unfit
 use Rattle.edit_ops.specs.EditLine.{edit_of}
 use Rattle.view_lines.specs.declared.command.Command as command
 use Rattle.view_lines.specs.declared.command.Command.TheVariants.{View, Edit, Count, Save}
+use Rattle.view_lines.specs.declared.holding.Holding.{Holding}
+use Rattle.view_lines.specs.declared.holding.Holding.TheVariants.{Hold, Release}
 use Rattle.view_lines.specs.declared.refusal.Refusal as refusal
-use Rattle.view_lines.specs.declared.refusal.Refusal.TheVariants.{Line, Limit, NoColour, ClassRange}
+use Rattle.view_lines.specs.declared.refusal.Refusal.TheVariants.{Line, Limit, NoColour, ClassRange, AlreadyHeld, NotHeld}
 
 -- the command of a view for a point format, or why it is refused: a camera number out of its range goes before a
 -- colouring that the format's records don't have
@@ -38,6 +40,11 @@ command_of (word ∷ others) format =
     else if bytes_eq word (codes "count") then result_map_both Count (λ _. Line) (filter_of others)
     else if bytes_eq word (codes "save") && length others == 0 then Ok Save else Err Line
 
+-- what a line asks of the version that is held, by its words: `hold` and `release` have no other words
+unfoldable pub holding_of : List (List ℕ) → Option Holding
+holding_of (word ∷ []) = if bytes_eq word (codes "hold") then Some Hold else if bytes_eq word (codes "release") then Some Release else None
+holding_of _ = None
+
 -- a point format has what a command needs: red, green and blue for a view that shows them, and room for the class of
 -- an edit
 abbrev pub FitsFormat : ℕ → command.Command → Type 0
@@ -51,3 +58,5 @@ refusal_code Line = 1
 refusal_code (Limit _) = 2
 refusal_code NoColour = 3
 refusal_code ClassRange = 4
+refusal_code AlreadyHeld = 5
+refusal_code NotHeld = 6

@@ -2,11 +2,11 @@
 #![tactic(auto)]
 
 mod command;
+mod holding;
 mod reading;
 mod refusal;
-#[cfg(test)]
-mod tests;
 
 pub use command::Command;
+pub use holding::{Holding, read_holding};
 pub use reading::read_command;
 pub use refusal::Refusal;

@@ -1,9 +1,9 @@
-ghost use Rattle.std.specs.Prelude.{◌≡◌, ◌≤◌, ◌==◌, length, Ok, Err, IfOk, if◌then◌else◌};
+ghost use Rattle.std.specs.Prelude.{◌≡◌, ◌≤◌, ◌==◌, length, Ok, Err, IfOk, IfErr, if◌then◌else◌};
 ghost use Rattle.std.specs.Result.{result_map_both};
 ghost use Rattle.view_base.specs.Text.{words};
 ghost use Rattle.view_text.specs.ViewWords.{view_of, filter_of};
 ghost use Rattle.edit_ops.specs.EditLine.{edit_of};
-ghost use Rattle.view_lines.specs.Command.{viewed, edited, command_of, FitsFormat};
+ghost use Rattle.view_lines.specs.Command.{viewed, edited, command_of, refusal_code, FitsFormat};
 
 use crate::command::Command;
 use crate::refusal::Refusal;
@@ -17,6 +17,7 @@ fn view_command(text: &[u8], format: u8) -> Result<Command, Refusal>
     requires { format ≤ 10 }
     ensures command { result ≡ viewed format (view_of (words text.now)) }
     ensures fits { IfOk result (FitsFormat format) }
+    ensures codes { IfErr result (λ refusal. refusal_code refusal ≤ 4) }
 {
     match read_view(text) {
         Ok(view) => {
@@ -36,6 +37,7 @@ fn edit_command(line: &[u8], format: u8) -> Result<Command, Refusal>
     requires { format ≤ 10 }
     ensures command { result ≡ edited (edit_of (words line.now) format) }
     ensures fits { IfOk result (FitsFormat format) }
+    ensures codes { IfErr result (λ refusal. refusal_code refusal ≤ 4) }
 {
     match read_edit(line, format) {
         Ok(edit) => Ok(Command::Edit(edit)),
@@ -46,7 +48,8 @@ fn edit_command(line: &[u8], format: u8) -> Result<Command, Refusal>
 
 /// The command of the words of a filter.
 fn count_command(text: &[u8]) -> Result<Command, Refusal>
-    ensures { result ≡ result_map_both Command.Count (λ _. Refusal.Line) (filter_of (words text.now)) }
+    ensures command { result ≡ result_map_both Command.Count (λ _. Refusal.Line) (filter_of (words text.now)) }
+    ensures codes { IfErr result (λ refusal. refusal_code refusal ≤ 4) }
 {
     match read_filter(text) {
         Ok(filter) => Ok(Command::Count(filter)),
@@ -56,7 +59,8 @@ fn count_command(text: &[u8]) -> Result<Command, Refusal>
 
 /// The command of a line that goes on with this text after the word `save`.
 fn save_command(rest: &[u8]) -> Result<Command, Refusal>
-    ensures { result ≡ (if length (words rest.now) == 0 then Ok Command.Save else Err Refusal.Line) }
+    ensures command { result ≡ (if length (words rest.now) == 0 then Ok Command.Save else Err Refusal.Line) }
+    ensures codes { IfErr result (λ refusal. refusal_code refusal ≤ 4) }
 {
     match next_word(rest, 0) {
         Some(_) => Err(Refusal::Line),
@@ -69,11 +73,13 @@ fn save_command(rest: &[u8]) -> Result<Command, Refusal>
 /// a filter, or `save` alone. Every other line is refused as `Line`. `Limit` comes where a view's
 /// camera has a number out of its range, `NoColour` where all its numbers are in range and it shows
 /// red, green and blue that the format doesn't have, `ClassRange` where an edit's new class is
-/// above the greatest class of the format. Takes no memory.
+/// above the greatest class of the format. What a session holds is nothing to it, so it answers
+/// neither `AlreadyHeld` nor `NotHeld`. Takes no memory.
 pub fn read_command(line: &[u8], format: u8) -> Result<Command, Refusal>
     requires { format ≤ 10 }
     ensures command { result ≡ command_of (words line.now) format }
     ensures fits { IfOk result (FitsFormat format) }
+    ensures codes { IfErr result (λ refusal. refusal_code refusal ≤ 4) }
 {
     let Some((start, end)) = next_word(line, 0) else {
         return Err(Refusal::Line);

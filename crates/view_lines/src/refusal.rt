@@ -15,10 +15,14 @@ pub enum Refusal {
     NoColour,
     /// The edit's new class is above the greatest class of the survey's point data record format.
     ClassRange,
+    /// A version is to be held, and the session holds one already.
+    AlreadyHeld,
+    /// The version that is held is to be released, and the session holds none.
+    NotHeld,
 }
 
 impl Refusal {
-    /// The code that answers a refused line: 1 to 4 in the order of the variants.
+    /// The code that answers a refused line: 1 to 6 in the order of the variants.
     pub fn code(&self) -> u8
         ensures { result ≡ refusal_code self.now }
     {
@@ -27,6 +31,8 @@ impl Refusal {
             Refusal::Limit(_) => 2,
             Refusal::NoColour => 3,
             Refusal::ClassRange => 4,
+            Refusal::AlreadyHeld => 5,
+            Refusal::NotHeld => 6,
         }
     }
 }

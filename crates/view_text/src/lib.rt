@@ -4,8 +4,6 @@
 mod fault;
 mod kinds;
 mod reading;
-#[cfg(test)]
-mod tests;
 mod view_spec;
 
 pub use fault::TextFault;

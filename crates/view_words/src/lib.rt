@@ -7,8 +7,6 @@ mod kind;
 mod reading;
 mod refusing;
 mod row;
-#[cfg(test)]
-mod tests;
 
 pub use fields::{pair_count, records, start, text_at, workers};
 pub use reading::{read_draw, read_row};

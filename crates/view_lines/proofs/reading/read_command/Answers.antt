@@ -24,7 +24,7 @@ returns-then-eq-3-clause-command c =
     let view = bytes_eq-answered _ _ _ _ _ c.eq.ensures c.as_slice.ensures c.if-eq.false in
     let edit = bytes_eq-answered _ _ _ _ _ c.eq-2.ensures c.as_slice-2.ensures c.if-eq-2.false in
     let count = bytes_eq-answered _ _ _ _ _ c.eq-3.ensures c.as_slice-3.ensures c.if-eq-3.true in
-    let command = rw take_rest at c.count_command.ensures in
+    let command = rw take_rest at c.count_command.ensures.command in
     command ∙ sym (command_of-count c.args.line.now _ _ c.args.format c.in-Some.ensures.word view edit count)
 
 pub returns-then-eq-4-clause-command : goal.returns-then-eq-4-clause-command
@@ -33,11 +33,11 @@ returns-then-eq-4-clause-command c =
     let edit = bytes_eq-answered _ _ _ _ _ c.eq-2.ensures c.as_slice-2.ensures c.if-eq-2.false in
     let count = bytes_eq-answered _ _ _ _ _ c.eq-3.ensures c.as_slice-3.ensures c.if-eq-3.false in
     let save = bytes_eq-answered _ _ _ _ _ c.eq-4.ensures c.as_slice-4.ensures c.if-eq-4.true in
-    let command = rw take_rest at c.save_command.ensures in
+    let command = rw take_rest at c.save_command.ensures.command in
     command ∙ sym (command_of-save c.args.line.now _ _ c.args.format c.in-Some.ensures.word view edit count save)
 
 pub returns-then-eq-4-clause-fits : goal.returns-then-eq-4-clause-fits
-returns-then-eq-4-clause-fits c = save-fits _ c.args.format c.save_command.result c.save_command.ensures
+returns-then-eq-4-clause-fits c = save-fits _ c.args.format c.save_command.result c.save_command.ensures.command
 
 pub returns-clause-command : goal.returns-clause-command
 returns-clause-command c =
