@@ -27,7 +27,9 @@ pub record IsFitting (v : View) : Type 0 where
   pub joined : v.live ≡ false → (v.plots ≡ []) × (v.claims ≡ []) × (v.ends ≡ 0) × (v.root ≡ false)
   pub worker : v.root ≡ false → v.out ≡ 0
 
--- The claim word stands behind the pixels' words. Each pixel's word is the least of all plots on it; the numbers claimed are those below the claim word and below `blocks`, each once; the claim word is above `blocks` by as many as the ends that were used; one live view is the root, which knows how many others there are
+-- The claim word stands behind the pixels' words. Each pixel's word is the least of all plots on it; the numbers claimed are those
+-- below the claim word and below `blocks`, each once; the claim word is above `blocks` by as many as the ends that were used;
+-- one live view is the root, which knows how many others there are
 pub record IsKept (size : Size) (words : List ℕ) (views : List View) : Type 0 where
   pub small : size.blocks + size.ends < 2 ^ 63
   pub places : length words ≡ size.pixels + 1

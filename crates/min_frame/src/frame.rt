@@ -2,6 +2,7 @@ ghost use Rattle.std.specs.Prelude.{◌≡◌, ℕ, ◌+◌, ◌-◌, ◌<◌, �
 ghost use Rattle.min_frame.specs.Least.{least};
 ghost use Rattle.min_frame.specs.Empty.{AreEmpty};
 ghost use Rattle.min_frame.specs.Claimed.{times};
+ghost use Rattle.min_frame.specs.Meaning.{with_account};
 
 use crate::empty_words::EmptyWords;
 use crate::rule::{Claim, Cut, Given, Merge, Plot, Rule};
@@ -39,7 +40,10 @@ impl Model for Frame {
 
     ghost view = { λ f. record { name = f.table.shared.table_id; pixels = f.pixels; blocks = f.blocks; ends = f.table.shared.key.ends } };
 
-    ghost invariant = { λ f. (f.table.shared.table_id.words ≡ f.pixels + 1) × (f.table.shared.table_id.slots ≡ 0) × (f.table.shared.key.pixels ≡ f.pixels) × (f.table.shared.key.blocks ≡ f.blocks) };
+    ghost invariant = { λ f. (f.table.shared.table_id.words ≡ f.pixels + 1)
+        × (f.table.shared.table_id.slots ≡ 0)
+        × (f.table.shared.key.pixels ≡ f.pixels)
+        × (f.table.shared.key.blocks ≡ f.blocks) };
 }
 
 impl Frame {
@@ -138,7 +142,7 @@ impl Frame {
         requires frame { (root.old.frame ≡ self.now.name) × (worker.frame ≡ self.now.name) }
         requires root { root.old.root ≡ true }
         requires worker { worker.root ≡ false }
-        ensures { root.new ≡ record root.old { plots = root.old.plots ++ worker.plots; claims = root.old.claims ++ worker.claims; ends = root.old.ends + worker.ends; out = root.old.out - 1 } }
+        ensures { root.new ≡ with_account root.old worker }
     {
         self.table
             .shared

@@ -8,8 +8,6 @@ mod empty_words;
 mod frame;
 mod rule;
 mod seat;
-#[cfg(test)]
-mod tests;
 mod view;
 mod words;
 

@@ -14,7 +14,14 @@ impl Model for Seat {
 
     ghost Value = { Seated };
 
-    ghost view = { λ s. record { frame = s.inner.table_id; plots = s.inner.me.0.plots; claims = s.inner.me.0.claims; ends = s.inner.me.0.ends; root = s.inner.me.0.root; out = s.inner.me.0.out } };
+    ghost view = { λ s. record {
+      frame = s.inner.table_id;
+      plots = s.inner.me.0.plots;
+      claims = s.inner.me.0.claims;
+      ends = s.inner.me.0.ends;
+      root = s.inner.me.0.root;
+      out = s.inner.me.0.out;
+    } };
 
     ghost invariant = { λ s. (s.inner.me.0.live ≡ true) × (s.inner.me.1 ≡ []) };
 }

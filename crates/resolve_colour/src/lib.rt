@@ -4,10 +4,10 @@
 
 mod paint;
 mod pixels;
-#[cfg(test)]
-mod tests;
+mod record;
 mod words;
 
 pub use las_points::can_colour;
 pub use pixels::colours;
+pub use record::record_colour;
 pub use words::PixelWords;

@@ -108,7 +108,8 @@ fn colour_side_by_side<R: Threads + Sync, W: PixelWords + Sync, P: Paint + Sync>
     join_mut(
         rt,
         &mut ||
-            requires { IsSync R.row × IsSync W.row × IsSync P.row × IsPaintable survey.now classes.now P.colouring (W.words words.now) first middle front.now }
+            requires { IsSync R.row × IsSync W.row × IsSync P.row
+                × IsPaintable survey.now classes.now P.colouring (W.words words.now) first middle front.now }
             ensures { front.exit.now ≡ flat_map (word_colour survey.entry.now classes.entry.now P.colouring) (part first middle (W.words words.entry.now)) }
         {
             colour_side_by_side::<R, W, P>(
@@ -123,7 +124,8 @@ fn colour_side_by_side<R: Threads + Sync, W: PixelWords + Sync, P: Paint + Sync>
             )
         },
         &mut ||
-            requires { IsSync R.row × IsSync W.row × IsSync P.row × IsPaintable survey.now classes.now P.colouring (W.words words.now) middle end back.now }
+            requires { IsSync R.row × IsSync W.row × IsSync P.row
+                × IsPaintable survey.now classes.now P.colouring (W.words words.now) middle end back.now }
             ensures { back.exit.now ≡ flat_map (word_colour survey.entry.now classes.entry.now P.colouring) (part middle end (W.words words.entry.now)) }
         {
             colour_side_by_side::<R, W, P>(

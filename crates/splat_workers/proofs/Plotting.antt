@@ -11,11 +11,7 @@ use Rattle.view_meaning.proofs.Nearest.{range_more}
 use Rattle.view_meaning.proofs.Passing.{passes-all}
 use Rattle.min_frame.specs.Meaning.{Seated}
 use Rattle.splat_workers.specs.Pairs.{pair_at, pair_of}
-use Rattle.splat_workers.specs.Waiting.{Waiting, drawn}
-
--- a seat with more plots
-abbrev pub plotting : Seated → List (ℕ × ℕ) → Seated
-plotting seat pairs = record { frame = seat.frame; plots = seat.plots ++ pairs; claims = seat.claims; ends = seat.ends; root = seat.root; out = seat.out }
+use Rattle.splat_workers.specs.Waiting.{Waiting, drawn, plotting}
 
 pub plotting-more : (start before after : Seated) (done new all : List (ℕ × ℕ)) → before ≡ plotting start done → after ≡ plotting before new → done ++ new ≡ all → after ≡ plotting start all
 plotting-more start before after done new all was made is =

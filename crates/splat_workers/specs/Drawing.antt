@@ -6,7 +6,7 @@ use Rattle.view_meaning.specs.Survey.{record_count}
 use Rattle.grid_blocks.specs.Blocks.{IsBlocks}
 use Rattle.min_frame.specs.Meaning.{Framed}
 use Rattle.splat_workers.specs.declared.plan.Plan.{Plan}
-use Rattle.splat_workers.specs.Pairs.{block_pairs}
+use Rattle.splat_workers.specs.Pairs.{pair_of, block_pairs}
 
 -- a plan whose parts are of one survey and whose pieces have a block, and a frame with a word for each pixel and a number for each piece
 pub record IsFrameFor (plan : Plan) (frame : Framed) : Type 0 where
@@ -21,10 +21,17 @@ pub record IsFrameFor (plan : Plan) (frame : Framed) : Type 0 where
 abbrev pub piece_blocks : List ℕ → ℕ → ℕ → List ℕ
 piece_blocks kept step n = take step (drop (n * step) kept)
 
+-- the pairs of the records with these numbers
+abbrev pub record_pairs : Plan → List ℕ → List (ℕ × ℕ)
+record_pairs plan numbers = flat_map (pair_of plan.survey.now plan.classes.now plan.camera.now plan.filter.now) numbers
+
+-- the pairs of the records of block k
+abbrev pub pairs_in_block : Plan → ℕ → List (ℕ × ℕ)
+pairs_in_block plan k = block_pairs plan.survey.now plan.classes.now plan.camera.now plan.filter.now plan.blocks.now k
+
 -- the pairs of the records of piece n
 abbrev pub piece_pairs : Plan → ℕ → List (ℕ × ℕ)
-piece_pairs plan n =
-    flat_map (block_pairs plan.survey.now plan.classes.now plan.camera.now plan.filter.now plan.blocks.now) (piece_blocks plan.kept.now plan.step n)
+piece_pairs plan n = flat_map (pairs_in_block plan) (piece_blocks plan.kept.now plan.step n)
 
 -- the pairs of the records of the pieces with these numbers
 abbrev pub claimed_pairs : Plan → List ℕ → List (ℕ × ℕ)

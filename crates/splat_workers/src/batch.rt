@@ -1,6 +1,6 @@
 ghost use Rattle.std.specs.Prelude.{◌≡◌, ◌<◌, ◌++◌, ◌∷◌, [], length};
 ghost use Rattle.std.specs.Bool.{OnTrue, OnFalse};
-ghost use Rattle.splat_workers.specs.Waiting.{drawn};
+ghost use Rattle.splat_workers.specs.Waiting.{drawn, plotting};
 
 use min_frame::{Frame, Seat};
 use std::marker::Model;
@@ -92,7 +92,7 @@ impl Batch {
         requires frame { seat.old.frame ≡ frame.now.name }
         requires pixels { self.old.pixels ≡ frame.now.pixels }
         requires pixel { pixel < frame.now.pixels }
-        ensures drawn { drawn seat.new self.new ≡ record (drawn seat.old self.old) { plots = (seat.old.plots ++ self.old.plots) ++ (pixel, value) ∷ [] } }
+        ensures drawn { drawn seat.new self.new ≡ plotting (drawn seat.old self.old) ((pixel, value) ∷ []) }
         ensures frame { seat.new.frame ≡ seat.old.frame }
         ensures pixels { self.new.pixels ≡ self.old.pixels }
     {

@@ -1,9 +1,10 @@
-ghost use Rattle.std.specs.Prelude.{◌≡◌, ◌+◌, ◌*◌, ◌<◌, ◌≤◌, ◌^◌, ◌++◌, All, false, length, map};
+ghost use Rattle.std.specs.Prelude.{◌≡◌, ◌+◌, ◌*◌, ◌<◌, ◌≤◌, ◌^◌, All, false, length, map};
 ghost use Rattle.std.specs.Bool.{OnTrue};
-ghost use Rattle.std.specs.List.{flat_map, range_with_len};
+ghost use Rattle.std.specs.List.{range_with_len};
 ghost use Rattle.grid_blocks.specs.Blocks.{IsBlocks};
-ghost use Rattle.splat_workers.specs.Pairs.{pair_at, pair_of, block_pairs};
-ghost use Rattle.splat_workers.specs.Waiting.{drawn};
+ghost use Rattle.splat_workers.specs.Drawing.{pairs_in_block, record_pairs};
+ghost use Rattle.splat_workers.specs.Pairs.{pair_at};
+ghost use Rattle.splat_workers.specs.Waiting.{drawn, plotting};
 ghost use Rattle.view_meaning.specs.Camera.{spot};
 ghost use Rattle.view_meaning.specs.Classes.{all_classes};
 ghost use Rattle.view_meaning.specs.Survey.{point_of, record_count, withheld_of};
@@ -26,7 +27,7 @@ pub(crate) fn draw_block(plan: &Plan, frame: &Frame, seat: &mut Seat, batch: &mu
     requires frame { seat.old.frame ≡ frame.now.name }
     requires waits { batch.old.pixels ≡ frame.now.pixels }
     requires pixels { frame.now.pixels ≡ plan.now.camera.now.width * plan.now.camera.now.height }
-    ensures drawn { drawn seat.new batch.new ≡ record (drawn seat.old batch.old) { plots = (seat.old.plots ++ batch.old.plots) ++ block_pairs plan.now.survey.now plan.now.classes.now plan.now.camera.now plan.now.filter.now plan.now.blocks.now k } }
+    ensures drawn { drawn seat.new batch.new ≡ plotting (drawn seat.old batch.old) (pairs_in_block plan.now k) }
     ensures frame { seat.new.frame ≡ seat.old.frame }
     ensures waits { batch.new.pixels ≡ batch.old.pixels }
 {
@@ -54,7 +55,7 @@ fn draw_copied(
     requires frame { seat.old.frame ≡ frame.now.name }
     requires waits { batch.old.pixels ≡ frame.now.pixels }
     requires pixels { frame.now.pixels ≡ plan.now.camera.now.width * plan.now.camera.now.height }
-    ensures drawn { drawn seat.new batch.new ≡ record (drawn seat.old batch.old) { plots = (seat.old.plots ++ batch.old.plots) ++ flat_map (pair_of plan.now.survey.now plan.now.classes.now plan.now.camera.now plan.now.filter.now) records.now.numbers.now } }
+    ensures drawn { drawn seat.new batch.new ≡ plotting (drawn seat.old batch.old) (record_pairs plan.now records.now.numbers.now) }
     ensures frame { seat.new.frame ≡ seat.old.frame }
     ensures waits { batch.new.pixels ≡ batch.old.pixels }
 {
@@ -83,7 +84,7 @@ fn plot_each(
     requires frame { seat.old.frame ≡ frame.now.name }
     requires waits { batch.old.pixels ≡ frame.now.pixels }
     requires pixels { frame.now.pixels ≡ plan.now.camera.now.width * plan.now.camera.now.height }
-    ensures drawn { drawn seat.new batch.new ≡ record (drawn seat.old batch.old) { plots = (seat.old.plots ++ batch.old.plots) ++ flat_map (pair_of plan.now.survey.now plan.now.classes.now plan.now.camera.now plan.now.filter.now) numbers.now } }
+    ensures drawn { drawn seat.new batch.new ≡ plotting (drawn seat.old batch.old) (record_pairs plan.now numbers.now) }
     ensures frame { seat.new.frame ≡ seat.old.frame }
     ensures waits { batch.new.pixels ≡ batch.old.pixels }
 {
@@ -116,7 +117,7 @@ fn plot_passing(
     requires frame { seat.old.frame ≡ frame.now.name }
     requires waits { batch.old.pixels ≡ frame.now.pixels }
     requires pixels { frame.now.pixels ≡ plan.now.camera.now.width * plan.now.camera.now.height }
-    ensures drawn { drawn seat.new batch.new ≡ record (drawn seat.old batch.old) { plots = (seat.old.plots ++ batch.old.plots) ++ flat_map (pair_of plan.now.survey.now plan.now.classes.now plan.now.camera.now plan.now.filter.now) records.now.numbers.now } }
+    ensures drawn { drawn seat.new batch.new ≡ plotting (drawn seat.old batch.old) (record_pairs plan.now records.now.numbers.now) }
     ensures frame { seat.new.frame ≡ seat.old.frame }
     ensures waits { batch.new.pixels ≡ batch.old.pixels }
 {
@@ -151,7 +152,7 @@ fn plot_point(
     requires frame { seat.old.frame ≡ frame.now.name }
     requires waits { batch.old.pixels ≡ frame.now.pixels }
     requires pixels { frame.now.pixels ≡ camera.now.width * camera.now.height }
-    ensures drawn { drawn seat.new batch.new ≡ record (drawn seat.old batch.old) { plots = (seat.old.plots ++ batch.old.plots) ++ pair_at camera.now number (spot camera.now point) } }
+    ensures drawn { drawn seat.new batch.new ≡ plotting (drawn seat.old batch.old) (pair_at camera.now number (spot camera.now point)) }
     ensures frame { seat.new.frame ≡ seat.old.frame }
     ensures waits { batch.new.pixels ≡ batch.old.pixels }
 {
@@ -184,7 +185,7 @@ fn draw_numbered(
     requires frame { seat.old.frame ≡ frame.now.name }
     requires waits { batch.old.pixels ≡ frame.now.pixels }
     requires pixels { frame.now.pixels ≡ plan.now.camera.now.width * plan.now.camera.now.height }
-    ensures drawn { drawn seat.new batch.new ≡ record (drawn seat.old batch.old) { plots = (seat.old.plots ++ batch.old.plots) ++ flat_map (pair_of plan.now.survey.now plan.now.classes.now plan.now.camera.now plan.now.filter.now) (range_with_len first count) } }
+    ensures drawn { drawn seat.new batch.new ≡ plotting (drawn seat.old batch.old) (record_pairs plan.now (range_with_len first count)) }
     ensures frame { seat.new.frame ≡ seat.old.frame }
     ensures waits { batch.new.pixels ≡ batch.old.pixels }
 {
@@ -212,7 +213,7 @@ fn plot_each_numbered(
     requires frame { seat.old.frame ≡ frame.now.name }
     requires waits { batch.old.pixels ≡ frame.now.pixels }
     requires pixels { frame.now.pixels ≡ plan.now.camera.now.width * plan.now.camera.now.height }
-    ensures drawn { drawn seat.new batch.new ≡ record (drawn seat.old batch.old) { plots = (seat.old.plots ++ batch.old.plots) ++ flat_map (pair_of plan.now.survey.now plan.now.classes.now plan.now.camera.now plan.now.filter.now) (range_with_len first count) } }
+    ensures drawn { drawn seat.new batch.new ≡ plotting (drawn seat.old batch.old) (record_pairs plan.now (range_with_len first count)) }
     ensures frame { seat.new.frame ≡ seat.old.frame }
     ensures waits { batch.new.pixels ≡ batch.old.pixels }
 {
@@ -239,7 +240,7 @@ fn plot_passing_numbered(
     requires frame { seat.old.frame ≡ frame.now.name }
     requires waits { batch.old.pixels ≡ frame.now.pixels }
     requires pixels { frame.now.pixels ≡ plan.now.camera.now.width * plan.now.camera.now.height }
-    ensures drawn { drawn seat.new batch.new ≡ record (drawn seat.old batch.old) { plots = (seat.old.plots ++ batch.old.plots) ++ flat_map (pair_of plan.now.survey.now plan.now.classes.now plan.now.camera.now plan.now.filter.now) (range_with_len first count) } }
+    ensures drawn { drawn seat.new batch.new ≡ plotting (drawn seat.old batch.old) (record_pairs plan.now (range_with_len first count)) }
     ensures frame { seat.new.frame ≡ seat.old.frame }
     ensures waits { batch.new.pixels ≡ batch.old.pixels }
 {

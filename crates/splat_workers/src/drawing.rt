@@ -1,7 +1,7 @@
-ghost use Rattle.std.specs.Prelude.{◌≡◌, ◌+◌, ◌-◌, ◌<◌, ◌≤◌, [], All, IfErr, IfOk, false, length, true};
+ghost use Rattle.std.specs.Prelude.{◌≡◌, ◌+◌, ◌-◌, ◌<◌, ◌≤◌, [], IfErr, IfOk, false, length, true};
 ghost use Rattle.std.specs.Thread.{IsSync};
 ghost use Rattle.splat_workers.specs.Drawing.{IsFrameFor, SamePairs, claimed_pairs};
-ghost use Rattle.splat_workers.specs.Working.{HasDrawn, IsReady};
+ghost use Rattle.splat_workers.specs.Working.{AreNumbered, AreReady, HasDrawn, HaveDrawn, IsReady};
 
 use crate::plan::Plan;
 use crate::worker::{Worker, work};
@@ -48,14 +48,15 @@ pub fn draw_words<R: Threads + Sync, B: Beside>(
     Ok(joined(plan, frame, first.seat, others))
 }
 
-/// Splits a seat off the root for each worker but the first.
+/// Splits a seat off the root for each worker but the first, and numbers them from 1.
 fn split_off(frame: &Frame, root: &mut Seat, workers: u32, others: &mut Listing<Worker>)
     requires workers { 1 ≤ workers }
     requires root { root.old ≡ record { frame = frame.now.name; plots = []; claims = []; ends = workers; root = true; out = 0 } }
     requires none { others.old.items ≡ [] }
     requires room { workers ≤ others.old.spare }
     ensures root { root.new ≡ record root.old { ends = 1; out = workers - 1 } }
-    ensures ready { All (λ worker. IsReady frame.now.name worker.seat × (worker.seat.root ≡ false)) others.new.items }
+    ensures ready { AreReady frame.now.name others.new.items }
+    ensures numbers { AreNumbered others.new.items }
     ensures size { length others.new.items + 1 ≡ workers }
 {
     for number in 1..workers {
@@ -75,11 +76,11 @@ fn run<R: Threads + Sync, B: Beside>(
 )
     requires fits { IsFrameFor plan.now frame.now }
     requires first { IsReady frame.now.name first.old.seat }
-    requires others { All (λ worker. IsReady frame.now.name worker.seat × (worker.seat.root ≡ false)) others.old }
+    requires others { AreReady frame.now.name others.old }
     ensures first { HasDrawn plan.now frame.now.name first.new.seat }
     ensures root { first.new.seat.root ≡ first.old.seat.root }
     ensures out { first.new.seat.out ≡ first.old.seat.out }
-    ensures others { All (λ worker. HasDrawn plan.now frame.now.name worker.seat × (worker.seat.root ≡ false)) others.new }
+    ensures others { HaveDrawn plan.now frame.now.name others.new }
     ensures size { length others.new ≡ length others.old }
 {
     if others.is_empty() {
@@ -95,8 +96,8 @@ fn run<R: Threads + Sync, B: Beside>(
             ensures out { first.exit.now.seat.out ≡ first.entry.now.seat.out }
         { work(plan, frame, beside, first) },
         &mut ||
-            requires { IsSync R.row × IsSync B.row × IsFrameFor plan.now frame.now × All (λ worker. IsReady frame.now.name worker.seat × (worker.seat.root ≡ false)) others.now }
-            ensures drawn { All (λ worker. HasDrawn plan.entry.now frame.entry.now.name worker.seat × (worker.seat.root ≡ false)) others.exit.now }
+            requires { IsSync R.row × IsSync B.row × IsFrameFor plan.now frame.now × AreReady frame.now.name others.now }
+            ensures drawn { HaveDrawn plan.entry.now frame.entry.now.name others.exit.now }
             ensures size { length others.exit.now ≡ length others.entry.now }
         { run_each(rt, plan, frame, beside, others) },
     );
@@ -111,8 +112,8 @@ fn run_each<R: Threads + Sync, B: Beside>(
     workers: &mut [Worker],
 )
     requires fits { IsFrameFor plan.now frame.now }
-    requires ready { All (λ worker. IsReady frame.now.name worker.seat × (worker.seat.root ≡ false)) workers.old }
-    ensures drawn { All (λ worker. HasDrawn plan.now frame.now.name worker.seat × (worker.seat.root ≡ false)) workers.new }
+    requires ready { AreReady frame.now.name workers.old }
+    ensures drawn { HaveDrawn plan.now frame.now.name workers.new }
     ensures size { length workers.new ≡ length workers.old }
 {
     if workers.len() < 2 {
@@ -123,13 +124,13 @@ fn run_each<R: Threads + Sync, B: Beside>(
     join_mut(
         rt,
         &mut ||
-            requires { IsSync R.row × IsSync B.row × IsFrameFor plan.now frame.now × All (λ worker. IsReady frame.now.name worker.seat × (worker.seat.root ≡ false)) front.now }
-            ensures drawn { All (λ worker. HasDrawn plan.entry.now frame.entry.now.name worker.seat × (worker.seat.root ≡ false)) front.exit.now }
+            requires { IsSync R.row × IsSync B.row × IsFrameFor plan.now frame.now × AreReady frame.now.name front.now }
+            ensures drawn { HaveDrawn plan.entry.now frame.entry.now.name front.exit.now }
             ensures size { length front.exit.now ≡ length front.entry.now }
         { run_each(rt, plan, frame, beside, front) },
         &mut ||
-            requires { IsSync R.row × IsSync B.row × IsFrameFor plan.now frame.now × All (λ worker. IsReady frame.now.name worker.seat × (worker.seat.root ≡ false)) back.now }
-            ensures drawn { All (λ worker. HasDrawn plan.entry.now frame.entry.now.name worker.seat × (worker.seat.root ≡ false)) back.exit.now }
+            requires { IsSync R.row × IsSync B.row × IsFrameFor plan.now frame.now × AreReady frame.now.name back.now }
+            ensures drawn { HaveDrawn plan.entry.now frame.entry.now.name back.exit.now }
             ensures size { length back.exit.now ≡ length back.entry.now }
         { run_each(rt, plan, frame, beside, back) },
     );
@@ -139,8 +140,8 @@ fn run_each<R: Threads + Sync, B: Beside>(
 fn work_alone<B: Beside>(plan: &Plan, frame: &Frame, beside: &B, workers: &mut [Worker])
     requires fits { IsFrameFor plan.now frame.now }
     requires few { length workers.old < 2 }
-    requires ready { All (λ worker. IsReady frame.now.name worker.seat × (worker.seat.root ≡ false)) workers.old }
-    ensures drawn { All (λ worker. HasDrawn plan.now frame.now.name worker.seat × (worker.seat.root ≡ false)) workers.new }
+    requires ready { AreReady frame.now.name workers.old }
+    ensures drawn { HaveDrawn plan.now frame.now.name workers.new }
     ensures size { length workers.new ≡ length workers.old }
 {
     if let Some(worker) = workers.first_mut() {
@@ -153,7 +154,7 @@ fn joined(plan: &Plan, frame: &Frame, mut root: Seat, mut others: Vec<Worker>) -
     requires root { HasDrawn plan.now frame.now.name root }
     requires is_root { root.root ≡ true }
     requires out { root.out ≡ length others.items }
-    requires others { All (λ worker. HasDrawn plan.now frame.now.name worker.seat × (worker.seat.root ≡ false)) others.items }
+    requires others { HaveDrawn plan.now frame.now.name others.items }
     ensures root { HasDrawn plan.now frame.now.name result }
     ensures is_root { result.root ≡ true }
     ensures out { result.out ≡ 0 }

@@ -9,11 +9,7 @@ mod block;
 mod drawing;
 mod nearest;
 mod piece;
-#[cfg(test)]
-mod piece_tests;
 mod plan;
-#[cfg(test)]
-mod tests;
 mod worker;
 
 pub use drawing::draw_words;

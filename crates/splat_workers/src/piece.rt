@@ -1,6 +1,7 @@
-ghost use Rattle.std.specs.Prelude.{◌≡◌, ◌*◌, ◌<◌, ◌++◌, All, length};
+ghost use Rattle.std.specs.Prelude.{◌≡◌, ◌*◌, ◌<◌, All, length};
 ghost use Rattle.grid_blocks.specs.Blocks.{IsBlocks};
 ghost use Rattle.splat_workers.specs.Drawing.{piece_pairs};
+ghost use Rattle.splat_workers.specs.Waiting.{plotting};
 ghost use Rattle.view_meaning.specs.Survey.{record_count};
 
 use crate::batch::Batch;
@@ -16,7 +17,7 @@ pub(crate) fn draw_piece(plan: &Plan, frame: &Frame, seat: &mut Seat, piece: u32
     requires piece { piece * plan.now.step < length plan.now.kept.now }
     requires frame { seat.old.frame ≡ frame.now.name }
     requires pixels { frame.now.pixels ≡ plan.now.camera.now.width * plan.now.camera.now.height }
-    ensures { seat.new ≡ record seat.old { plots = seat.old.plots ++ piece_pairs plan.now piece } }
+    ensures { seat.new ≡ plotting seat.old (piece_pairs plan.now piece) }
 {
     let kept = plan.kept.count();
     let first = piece * plan.step;

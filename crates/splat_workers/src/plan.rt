@@ -1,4 +1,4 @@
-ghost use Rattle.std.specs.Prelude.{◌≡◌, ◌≤◌, length};
+ghost use Rattle.std.specs.Prelude.{◌≡◌, ◌<◌, ◌≤◌, length};
 ghost use Rattle.std.specs.Int.{div_ceil};
 
 use class_bits::Filter;
@@ -44,10 +44,12 @@ impl Plan<'_> {
     }
 }
 
-/// How many blocks a piece has where so many are kept: one where they are few, and where they are
-/// many so many that there are still 8192 pieces. So a claim costs little beside what it draws.
+/// How many blocks a piece has where so many are kept: one where they are fewer than 16,384, and
+/// else as many as leave 8192 to 16,383 pieces. So a claim costs little beside what it draws.
 pub fn step_for(kept: u32) -> u32
-    ensures { 1 ≤ result }
+    ensures some { 1 ≤ result }
+    ensures few { kept < 16384 → result ≡ 1 }
+    ensures many { 16384 ≤ kept → (8192 ≤ div_ceil kept result) × (div_ceil kept result < 16384) }
 {
     (kept / FEWEST).max(1)
 }

@@ -1,9 +1,8 @@
 use Rattle.std.proofs.Common.{◌∙◌, ap, arith}
 use Rattle.grid_blocks.proofs.Once.{length-once}
 use Rattle.view_meaning.specs.Survey.{record_count}
-use Rattle.splat_workers.specs.Waiting.{drawn}
+use Rattle.splat_workers.specs.Waiting.{drawn, plotting}
 use Rattle.splat_workers.proofs.Blocks.{block_at, block_pairs-part, part_below, part-numbered}
-use Rattle.splat_workers.proofs.Plotting.{plotting}
 use Rattle.splat_workers.proofs.block.draw_block.Goals as goal
 
 pub draw_copied-requires-clause-numbers : goal.draw_copied-requires-clause-numbers

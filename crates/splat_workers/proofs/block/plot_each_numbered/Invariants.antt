@@ -1,8 +1,7 @@
 use Rattle.std.proofs.Common.{◌≡◌, ◌-◌}
 use Rattle.std.specs.List.{flat_map, range_with_len}
 use Rattle.splat_workers.specs.Pairs.{pair_of}
-use Rattle.splat_workers.specs.Waiting.{drawn}
-use Rattle.splat_workers.proofs.Plotting.{plotting}
+use Rattle.splat_workers.specs.Waiting.{drawn, plotting}
 use Rattle.splat_workers.proofs.block.plot_each_numbered.Given as goal
 
 abbrev pub invariant-loop-number : goal.invariant-loop-number

@@ -1,8 +1,7 @@
 use Rattle.std.proofs.Common.{◌≡◌, take}
 use Rattle.std.specs.List.{flat_map}
 use Rattle.splat_workers.specs.Pairs.{pair_of}
-use Rattle.splat_workers.specs.Waiting.{drawn}
-use Rattle.splat_workers.proofs.Plotting.{plotting}
+use Rattle.splat_workers.specs.Waiting.{drawn, plotting}
 use Rattle.splat_workers.proofs.block.plot_passing.Given as goal
 
 abbrev pub invariant-loop-place : goal.invariant-loop-place

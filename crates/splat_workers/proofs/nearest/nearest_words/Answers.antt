@@ -26,7 +26,7 @@ drawn g c =
     let size : length items ≡ view.camera.width * view.camera.height = c.close.ensures.pixels ∙ (frame.0 ∙ (ap (λ (n : ℕ). n * c.height.result) c.width.ensures.value ∙ ap (λ (n : ℕ). c.view.inside.camera.width * n) c.height.ensures.value)) in
     let ended : root.ends < c.in_ok-frame.frame.ends = omega (arith, c.in-Ok.ensures.ends, frame.2, c.requires.workers.0) in
     subst (λ (v : View). IsFrame b cs v items) c.view.view_is
-    (words_of_pairs b cs view c.args.blocks.now kept root.claims items step root.plots far few c.requires.blocks c.in_ok-kept.ensures.in_view c.step_for.ensures
+    (words_of_pairs b cs view c.args.blocks.now kept root.claims items step root.plots far few c.requires.blocks c.in_ok-kept.ensures.in_view c.step_for.ensures.some
     (λ n lt. c.close.ensures.all ended n (omega (arith, lt, frame.1, c.pieces.ensures.count)))
     c.in-Ok.ensures.plots size c.close.ensures.least)
 

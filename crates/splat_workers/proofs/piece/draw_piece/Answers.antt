@@ -1,7 +1,8 @@
 use Rattle.std.proofs.Common.{◌≡◌, ℕ, ◌-◌, ◌*◌, min, List, length, take, drop, ◌∙◌, ap, arith}
 use Rattle.std.specs.List.{flat_map}
 use Rattle.splat_workers.specs.Pairs.{block_pairs}
-use Rattle.splat_workers.proofs.Plotting.{plotting, plotting-more}
+use Rattle.splat_workers.specs.Waiting.{plotting}
+use Rattle.splat_workers.proofs.Plotting.{plotting-more}
 use Rattle.splat_workers.proofs.Pieces.{pairs-piece, whole_piece}
 use Rattle.splat_workers.proofs.piece.draw_piece.Goals as goal
 

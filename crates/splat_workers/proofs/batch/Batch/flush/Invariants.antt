@@ -1,5 +1,5 @@
 use Rattle.std.proofs.Common.{◌≡◌, take}
-use Rattle.splat_workers.proofs.Plotting.{plotting}
+use Rattle.splat_workers.specs.Waiting.{plotting}
 use Rattle.splat_workers.proofs.batch.Batch.flush.Given as goal
 
 abbrev pub invariant-loop-place : goal.invariant-loop-place

@@ -1,9 +1,8 @@
+//! Seats that plot and claim on one frame.
 ghost use Rattle.std.specs.Prelude.{◌≡◌, ◌<◌, ◌≤◌, length};
 
-use crate::empty_words::EmptyWords;
-use crate::frame::Frame;
-use crate::seat::Seat;
-use crate::words::FrameWords;
+use crate::drawing::are;
+use min_frame::{EmptyWords, Frame, FrameWords, Seat};
 use std::mem::size_of;
 use std::process::Abort;
 use std::test::Fail;
@@ -70,19 +69,6 @@ fn halves_that_run_side_by_side_leave_the_least_of_all_plots(rt: HostRuntime) ->
         assert!(rt; one.wrapping_add(two) == u64::from(blocks) * u64::from(blocks - 1) / 2);
     }
     Ok(())
-}
-
-/// Whether these are the frame's words.
-fn are(words: &FrameWords, wanted: &[u64]) -> bool {
-    if words.len() != wanted.len() {
-        return false;
-    }
-    for (pixel, word) in wanted.iter().enumerate() {
-        if words.word(pixel) != *word {
-            return false;
-        }
-    }
-    true
 }
 
 /// Lowers plain words by the plots of a half.

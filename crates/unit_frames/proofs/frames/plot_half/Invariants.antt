@@ -1,5 +1,5 @@
 use Rattle.std.proofs.Common.{◌≡◌}
-use Rattle.min_frame.proofs.tests.plot_half.Given as goal
+use Rattle.unit_frames.proofs.frames.plot_half.Given as goal
 
 abbrev pub invariant-loop-i : goal.invariant-loop-i
 invariant-loop-i l =

@@ -1,6 +1,6 @@
 use Rattle.std.proofs.Common.{◌≡◌, ◌≤◌, ◌-◌}
 use Rattle.min_frame.proofs.Claiming.{above_all}
-use Rattle.min_frame.proofs.tests.claim_all.Given as goal
+use Rattle.unit_frames.proofs.frames.claim_all.Given as goal
 
 abbrev pub invariant-loop-number : goal.invariant-loop-number
 invariant-loop-number l =

@@ -1,8 +1,9 @@
 //! Pieces of one block and of several.
-use crate::step_for;
-use crate::tests::{Place, are, drawn_by, survey_of, view_of};
+use crate::drawing::{are, drawn_by, view_of};
+use crate::surveys::{Place, survey_of};
 use class_bits::ClassSet;
 use las_survey::Survey;
+use splat_workers::step_for;
 use std::alloc::Global;
 use std::process::Abort;
 use std::test::Fail;
@@ -60,6 +61,7 @@ fn pieces_of_several_blocks_show_what_single_blocks_show(rt: HostRuntime) -> Res
 
 #[test]
 fn a_piece_has_one_block_until_there_are_many(rt: HostRuntime) {
-    let steps = [0, 16383, 16384, 262144].map(step_for);
-    assert!(rt; steps == [1, 1, 2, 32]);
+    let few = [step_for(0), step_for(16_383)];
+    let many = [step_for(16_384), step_for(262_144), step_for(1 << 20)];
+    assert!(rt; few == [1, 1] && many == [2, 32, 128]);
 }

@@ -1,7 +1,7 @@
 use Rattle.std.proofs.Common.{◌≡◌, ℕ, ◌-◌, ◌^◌, ◌++◌, [], List, All, replicate, ap, sym, subst, ◌∙◌, rules}
 use Rattle.std.proofs.lemmas.List.Elements.{All-append, All-replicate}
 use Rattle.resolve_colour.specs.Names.{NamesOne}
-use Rattle.resolve_colour.proofs.tests.fill_row.Goals as goal
+use Rattle.unit_frames.proofs.colours.fill_row.Goals as goal
 
 row_names : (n m : ℕ) (start first items : List ℕ) → start ≡ [] → first ≡ start ++ replicate n (2 ^ 64 - 1) → items ≡ first ++ replicate m 21474836480 → All (NamesOne 1) items
 row_names n m start first items none black shown =

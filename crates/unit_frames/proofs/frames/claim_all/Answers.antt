@@ -1,6 +1,6 @@
 use Rattle.std.proofs.Common.{◌≡◌, ◌+◌, ◌≤◌, ap, ◌∙◌, arith}
 use Rattle.min_frame.proofs.Claiming.{above_all, above_all-le, above_all-push}
-use Rattle.min_frame.proofs.tests.claim_all.Goals as goal
+use Rattle.unit_frames.proofs.frames.claim_all.Goals as goal
 
 pub loop-number-smaller : goal.loop-number-smaller
 loop-number-smaller c =
