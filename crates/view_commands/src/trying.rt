@@ -159,7 +159,8 @@ fn replies_over<R: Threads + Sync, B: Beside>(
     requires format { format_of (arc_value scene.now.survey) ≡ FORMAT }
     ensures { IfOk result (λ out. out.items ≡ script_replies (arc_value scene.now.survey)) }
 {
-    let mut store = Store::new(alloc, Arc::try_clone(&scene.survey)?)?;
+    let survey = Arc::try_clone(&scene.survey)?;
+    let mut store = Store::over(alloc, survey, Arc::try_clone(&scene.blocks)?)?;
     let mut out = Bytes::new(alloc);
     append_replies(alloc, rt, scene, &mut store, beside, &mut out)?;
     Ok(out)
