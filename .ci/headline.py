@@ -60,8 +60,8 @@ PARTS = [
     ),
     (
         "session scripts,",
-        "The bytes that session k may take, `left`, are those that its IN's file had at the start, whatever they are.",
-        ["RunsSession.left", "RunsSession.there", "RunsSession.script"],
+        "The bytes that session k may take, `left`, are those that its IN's file had at the start, whatever they are. Where an earlier session writes to the same name, which only `-` can be, there are none.",
+        ["RunsSession.left", "RunsSession.there", "RunsSession.script", "RunsSession.emptied"],
     ),
     ("worker count", "The word WORKERS fits where it is a number from 1 to 64 (`IsLine`). Nothing else that is said depends on it.", []),
     ("and interleaving,", "No field has a premise on the order in which the sessions do their steps. The history is whatever came about.", []),
@@ -146,10 +146,10 @@ PARTS = [
     ),
 ]
 BESIDE = (
-    "The record says more than the sentence: what the status is, that no other file changes, what holds where no session ran (one name that can't be opened is enough, and outputs that were opened before it are then empty, where the desk tells its files), and that "
+    "The record says more than the sentence: what the status is, that no other file and no other count changes, what holds where no session ran (one name that can't be opened is enough, and outputs that were opened before it are then empty, where the desk tells its files), and that "
     "the run is done, or memory was wanted, where nothing outside failed. By the law `done-whole` of crates/view_commands/proofs/Settled.antt "
-    "a run that is done has every session finished, and the input of each read to its end, if the desk tells its file and no earlier session writes it.",
-    ["RunsSessions.status", "RunsSessions.files", "NoSession.nothing", "NoSession.untaken", "NoSession.cause", "ServesLine.settled"],
+    "a run that is done has every session finished, and its input read to its end if the desk tells that file and no earlier session writes to the same name (which only `-` can be).",
+    ["RunsSessions.status", "RunsSessions.reading", "RunsSessions.writing", "NoSession.nothing", "NoSession.untaken", "NoSession.cause", "ServesLine.settled"],
 )
 
 FIRST = """# The promise of `run`

@@ -1,7 +1,7 @@
 -- What one session does: the lines of its input and the commands that they are, what it answers, which items it may have
 -- processed, which entries of the history are its own, under which marks it answered, and what its output got. A text is
 -- the list of its bytes.
-use Rattle.std.specs.Prelude.{ℕ, ◌-◌, ◌==◌, ◌&&◌, nat_lt, nat_le, if◌then◌else◌, Bool, List, [], ◌∷◌, ◌++◌, length, take, slice_index, slice_index_or, Result, Err, zip, codes, decimal, Ok, ◌≡◌, ◌+◌, ◌^◌, ◌<◌, ◌≤◌, ◌⊎◌, ◌↔◌, min, drop, slice_get, Option, Some, IfSome}
+use Rattle.std.specs.Prelude.{ℕ, ◌-◌, ◌==◌, ◌&&◌, nat_lt, nat_le, if◌then◌else◌, Bool, List, [], ◌∷◌, ◌++◌, length, take, slice_index, slice_index_or, Result, Err, zip, codes, decimal, Ok, ◌≡◌, ◌+◌, ◌<◌, ◌≤◌, ◌⊎◌, ◌↔◌, min, drop, slice_get, Option, Some, IfSome}
 use Rattle.std.specs.List.{slice_split, flat_map}
 use Rattle.view_base.specs.Text.{words}
 use Rattle.view_lines.specs.Command.{command_of, refusal_code}

@@ -1,5 +1,5 @@
 -- A session among others, part way through its input.
-use Rattle.std.specs.Prelude.{◌≡◌, ℕ, ◌-◌, ◌≤◌, ◌<◌, ◌⊎◌, List, [], ◌∷◌, ◌++◌, length, take, drop, slice_index, slice_index_or, slice_get, Bool, IsTrue, IsFalse, Option, Some, None, IfOk, Ok}
+use Rattle.std.specs.Prelude.{◌≡◌, ℕ, ◌-◌, ◌≤◌, ◌<◌, ◌⊎◌, List, [], ◌∷◌, ◌++◌, length, take, drop, slice_index, slice_index_or, slice_get, Bool, IsTrue, IsFalse, Option, Some, None, Result, IfOk, Ok, OnErr}
 use mathlib.Core.List.{IsPrefix}
 use Rattle.atomic_table.specs.Seated.{TableId}
 use Rattle.turn_gate.specs.Meaning.{Passed}
@@ -57,6 +57,11 @@ pub record Adds (old new : Talk) (item : Item) : Type 0 where
 -- the reply to an item that was just processed
 abbrev pub last_reply : List ℕ → Talk → Item → List ℕ
 last_reply b talk item = reply b (journal talk.pass.seen) item (last_mark talk.marks)
+
+-- an item was processed and its reply made, or there was no memory for one of both
+pub record Replied {E : Type 0} (b : List ℕ) (old new : Talk) (item : Item) (reply : Result (Listed ℕ) E) : Type 0 where
+  pub made : IfOk reply (λ text. Adds old new item × (text.items ≡ last_reply b new item))
+  pub none : OnErr reply (Stays old new ⊎ Adds old new item)
 
 -- an item was processed and its reply given whole, or the output got some front of it, or nothing was done
 pub record Answered (b : List ℕ) (old new : Talk) (item : Item) (before after : Option (List ℕ)) (done : Bool) : Type 0 where

@@ -2,6 +2,7 @@
 use Rattle.std.specs.Prelude.{◌≡◌, ℕ, ◌≤◌, List}
 use Rattle.std.specs.Arc.{arc_value}
 use Rattle.grid_blocks.specs.Blocks.{IsBlocks}
+use Rattle.view_meaning.specs.Survey.{format_of}
 use Rattle.version_store.specs.declared.history.Entry.{Entry}
 use Rattle.version_store.specs.Histories.{numbered, entries_by, is_pin, is_unpin, how_many}
 use Rattle.sessions.specs.declared.drawing.Scene.{Scene}
@@ -17,6 +18,14 @@ pub record IsScene (scene : Scene) : Type 0 where
 pub record IsWorld (world : World) : Type 0 where
   pub scene : IsScene world.scene
   pub bytes : world.shared.bytes ≡ arc_value world.scene.survey
+
+-- the bytes of the survey of a world
+abbrev pub survey_of : World → List ℕ
+survey_of world = arc_value world.scene.survey
+
+-- and its point format
+abbrev pub world_format : World → ℕ
+world_format world = format_of (survey_of world)
 
 -- a caller gave each of its pins back
 abbrev pub HasGivenBack : List Entry → ℕ → Type 0

@@ -18,13 +18,14 @@ mod replies;
 mod serving;
 #[cfg(test)]
 mod tests;
+mod whole_replies;
 mod world;
 
 pub use counting::count_passing;
 pub use drawing::{Scene, picture};
 pub use end::{Ends, Marks, Reason, SessionEnd};
 pub use heads::{HEAD, append_head};
-pub use replies::{append_count, append_picture, give_file};
+pub use replies::{append_count, append_picture};
 pub use serving::{INPUT_LIMIT, serve_session};
 pub use version_store::{Entry, History, What};
 pub use world::World;

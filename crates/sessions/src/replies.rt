@@ -38,7 +38,8 @@ pub fn append_picture<R: Threads + Sync, B: Beside>(
     requires scene { IsScene scene.now }
     requires records { length classes.now ≡ record_count (arc_value scene.now.survey) }
     requires can_colour { can_colour (format_of (arc_value scene.now.survey)) view.now.colouring ≡ true }
-    ensures appended { OnOk result (out.new.items ≡ out.old.items ++ with_length (codes "PICTURE") version (picture (arc_value scene.now.survey) classes.now view.now)) }
+    ensures appended { OnOk result (out.new.items ≡ out.old.items
+        ++ with_length (codes "PICTURE") version (picture (arc_value scene.now.survey) classes.now view.now)) }
     ensures refused { OnErr result (out.new.items ≡ out.old.items) }
 {
     let before = out.len();
@@ -73,7 +74,7 @@ pub fn append_count<R: Threads + Sync>(
 
 /// Gives the reply to a save: a head line, for which `out` has room and is empty, and the whole
 /// file with the classes of a version, which is streamed and takes no memory.
-pub fn give_file<O: Sink>(
+pub(crate) fn give_file<O: Sink>(
     survey: &Survey,
     classes: &Classes,
     version: Version,

@@ -55,7 +55,7 @@ impl Store {
 
     /// The store of a survey and blocks of its records, as `new` makes it. A refusal is want of
     /// memory. One pass over the records.
-    pub(crate) fn over(
+    pub fn over(
         alloc: Global,
         survey: Arc<Survey>,
         blocks: Arc<Blocks>,

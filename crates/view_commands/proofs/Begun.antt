@@ -21,6 +21,7 @@ pub record WasServed (tells : Bool) (old : Said) (ws : List (List ℕ)) (b : Lis
   pub left : Option (List ℕ)
   pub there : IsTrue tells → IsSome left
   pub script : ((j : ℕ) → j < k → output ws j ≢ input ws k) → left ≡ old.file (input ws k)
+  pub emptied : IsTrue tells → (j : ℕ) → j < k → output ws j ≡ input ws k → left ≡ Some []
   pub start : Option (List ℕ)
   pub empty : IsTrue tells → start ≡ Some []
   pub served : Served b [] seat.pass.seen (k + 1) left start seat.output.got seat.end.marks.items seat.end.reason seat.end.taken
@@ -47,6 +48,7 @@ was-served tells old new ws gate b k before after opened served =
       left = before.input.left;
       there = opened.fresh.there;
       script = opened.script;
+      emptied = opened.emptied;
       start = before.output.got;
       empty = opened.fresh.unwritten.empty;
       served = same;

@@ -35,6 +35,7 @@ opened-later : (tells : Bool) (old mid new : Said) (ws : List (List ℕ)) (gate 
 opened-later tells old mid new ws gate k seat known is = record {
   fresh = is.fresh;
   script = is.script;
+  emptied = is.emptied;
   input_known = known (input ws k) is.input_known;
   output_known = known (output ws k) is.output_known;
 }
@@ -81,6 +82,7 @@ opened-more tells old mid new ws gate seats n k seat line pairs within size open
     here = record {
       fresh = opens.fresh;
       script = λ apart. opens.left ∙ opened.files.others (input ws k) (λ j below same. apart j (omega (arith, below, size)) (sym same));
+      emptied = λ tell j below same. opens.left ∙ ap mid.file (sym same) ∙ opened.files.empty tell j (omega (arith, below, size));
       input_known = opens.input_known;
       output_known = opens.output_known;
     }

@@ -120,7 +120,7 @@ serves-refused tells old mid new ws b n ended line pairs laid read took nothing 
         untaken = λ k pair. subst (λ (m : ℕ). new.taken (input ws k) ≤ m) (took.others (input ws k) (apart ws n k line pairs pair)) (refuses.untaken (input ws k));
         cause = inr (b, laid, reads, refuses.opened, files, cause);
       };
-      settled = read-settles tells old new survey b (λ (b : List ℕ). None) (Calm old new ws) ended.status laid reads (unrefused ended.status) (λ none calm. not_opened-settles old new ws refuses.opened ended.status cause calm.0 calm.1);
+      settled = read-settles tells old new survey b (λ (b : List ℕ). None) (Calm old new ws) ended.status laid reads (unrefused ended.status) (λ tell none calm. not_opened-settles old new ws refuses.opened ended.status cause calm.0 calm.1);
     }
 
 -- a survey was read, and then there was no room
@@ -150,7 +150,7 @@ serves-memory tells old new ws b n ended line pairs laid read took is nothing =
         untaken = λ k pair. at_most _ _ (took.others (input ws k) (apart ws n k line pairs pair));
         cause = inr (b, laid, read, 0, files, cause);
       };
-      settled = read-settles tells old new survey b (λ (b : List ℕ). None) (Calm old new ws) ended.status laid read (unrefused ended.status) (λ none calm. inr is);
+      settled = read-settles tells old new survey b (λ (b : List ℕ). None) (Calm old new ws) ended.status laid read (unrefused ended.status) (λ tell none calm. inr is);
     }
 
 -- a survey was read, and then the sessions served
@@ -161,7 +161,7 @@ serves-run tells old mid new ws b n ended line pairs laid read took run =
     let runs = runs-all tells old mid new ws b ended line took run in
     record {
       outcome = inr (b, laid, reads, runs);
-      settled = read-settles tells old new (word_at ws SURVEY) b (λ (b : List ℕ). None) (Calm old new ws) ended.status laid reads (unrefused ended.status) (λ none calm. sessions-settle tells old new ws b ended runs calm.0 calm.1);
+      settled = read-settles tells old new (word_at ws SURVEY) b (λ (b : List ℕ). None) (Calm old new ws) ended.status laid reads (unrefused ended.status) (λ tell none calm. sessions-settle tells old new ws b ended tell runs calm.0 calm.1);
     }
 
 -- a survey was read, and then one of both

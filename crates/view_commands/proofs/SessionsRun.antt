@@ -23,7 +23,7 @@ use Rattle.view_words.proofs.RowNames.{in_not_survey, out_not_journal}
 use Rattle.view_commands.specs.declared.places.TheConstants.{SURVEY, JOURNAL}
 use Rattle.view_commands.specs.declared.told.Ended.{Ended}
 use Rattle.view_commands.specs.Run.{input, output, RunsSession, RunsSessions}
-use Rattle.view_commands.specs.Steps.{EachFrom, FinishesRun, OnlyInputs, RunsAll, Seated}
+use Rattle.view_commands.specs.Steps.{EachFrom, FinishesRun, OnlyInputs, RunsAll, Seated, root_of}
 use Rattle.view_commands.specs.Texts.{OnlyTook, OnlyWrote}
 use Rattle.view_commands.proofs.Begun.{WasServed, served-each}
 use Rattle.view_commands.proofs.Faults.{kept_file}
@@ -31,10 +31,6 @@ use Rattle.view_commands.proofs.Finished.{AreFinished, IsFinished, finished-afte
 use Rattle.view_commands.proofs.Lists.{all_map-at, at-within, below, each-at, slice_get-map, zip-length}
 use Rattle.view_commands.proofs.Passes.{AreJoined, given_back-all, given_back-later, joined-all, kept_pass, makers-all}
 use Rattle.view_commands.proofs.Written.{keeps-earlier}
-
--- the root of the passes once so many are split off
-abbrev root_of : TableId → ℕ → Passed Entry
-root_of gate n = record { gate = gate; who = 0; seen = []; mine = []; turn = None; root = true; out = n; given = n; kept = [] }
 
 -- one session of a run, from before its survey was read until after the journal was written
 session-runs : (tells : Bool) (old mid began finished new : Said) (ws : List (List ℕ)) (b : List ℕ) (n k : ℕ) (seats : List Seated) (kept : List reason.Reason) (h : List Entry) (seat : Seated) (one : reason.Reason)
@@ -57,6 +53,7 @@ session-runs tells old mid began finished new ws b n k seats kept h seat one lin
       left = was.left;
       there = was.there;
       script = λ apart. was.script apart ∙ took.rest.files (input ws k);
+      emptied = was.emptied;
       start = was.start;
       empty = was.empty;
       got = seat.output.got;
@@ -139,6 +136,14 @@ module _ (tells : Bool) (old mid new : Said) (ws : List (List ℕ)) (b : List �
   journal_apart : (k : ℕ) → k < length run.served → word_at ws JOURNAL ≢ output ws (0 + k)
   journal_apart k inside same = out_not_journal ws n k line run.pairs (omega (arith, inside, same_size)) (sym (same ∙ ap (output ws) (omega arith)))
 
+  -- of what reading counts it changed only that of inputs
+  pub runs-only : OnlyInputs mid new ws
+  runs-only = record {
+    unopened = λ other apart. fin.only.rest.unopened other ∙ are.opening other ∙ run.opens.rest.unopened other;
+    reads = λ other apart. fin.only.rest.reads other ∙ (are.reading other (λ k inside same. apart k (omega (arith, inside, same_size, run.pairs)) (same ∙ ap (input ws) (omega arith)))).1 ∙ run.opens.rest.reads other;
+    taken = λ other apart. fin.only.rest.taken other ∙ (are.reading other (λ k inside same. apart k (omega (arith, inside, same_size, run.pairs)) (same ∙ ap (input ws) (omega arith)))).0 ∙ run.opens.rest.taken other;
+  }
+
   pub runs-all : RunsSessions tells old new ws b ended
   runs-all =
       let writes = are.writing (word_at ws JOURNAL) journal_apart in
@@ -155,17 +160,15 @@ module _ (tells : Bool) (old mid new : Said) (ws : List (List ℕ)) (b : List �
             (writes.1 ∙ run.opens.rest.writes (word_at ws JOURNAL) ∙ took.rest.writes (word_at ws JOURNAL))
             (writes.2 ∙ run.opens.rest.unkept (word_at ws JOURNAL) ∙ took.rest.unkept (word_at ws JOURNAL)) fin.journal;
         status = fin.status;
-        files = λ other apart too.
-            fin.only.files other too
-            ∙ (are.writing other (λ k inside same. apart k (omega (arith, inside, same_size, run.pairs)) (same ∙ ap (output ws) (omega arith)))).0
-            ∙ run.opens.files other apart too
-            ∙ took.rest.files other;
+        reading = λ other apart too. (
+          runs-only.unopened other apart ∙ took.rest.unopened other,
+          runs-only.reads other apart ∙ took.rest.reads other,
+          runs-only.taken other apart ∙ took.others other too,
+        );
+        writing = λ other apart too.
+            let kept = are.writing other (λ k inside same. apart k (omega (arith, inside, same_size, run.pairs)) (same ∙ ap (output ws) (omega arith))) in (
+              fin.only.files other too ∙ kept.0 ∙ run.opens.files other apart too ∙ took.rest.files other,
+              fin.only.writes other too ∙ kept.1 ∙ run.opens.rest.writes other ∙ took.rest.writes other,
+              fin.only.unkept other too ∙ kept.2 ∙ run.opens.rest.unkept other ∙ took.rest.unkept other,
+            );
       }
-
-  -- of what reading counts it changed only that of inputs
-  pub runs-only : OnlyInputs mid new ws
-  runs-only = record {
-    unopened = λ other apart. fin.only.rest.unopened other ∙ are.opening other ∙ run.opens.rest.unopened other;
-    reads = λ other apart. fin.only.rest.reads other ∙ (are.reading other (λ k inside same. apart k (omega (arith, inside, same_size, run.pairs)) (same ∙ ap (input ws) (omega arith)))).1 ∙ run.opens.rest.reads other;
-    taken = λ other apart. fin.only.rest.taken other ∙ (are.reading other (λ k inside same. apart k (omega (arith, inside, same_size, run.pairs)) (same ∙ ap (input ws) (omega arith)))).0 ∙ run.opens.rest.taken other;
-  }

@@ -1,6 +1,6 @@
 -- How a `serve` ends where nothing outside failed.
 use Rattle.std.proofs.Common.{◌≡◌, ◌≢◌, ℕ, zero, suc, ◌+◌, ◌<◌, ◌≤◌, Bool, List, [], ◌∷◌, length, map, take, refl, sym, ◌∙◌, ap, subst, arith, inl, inr}
-use Rattle.std.specs.Prelude.{◌⊎◌, min, Option, Some, IfSome, slice_get}
+use Rattle.std.specs.Prelude.{◌⊎◌, IsTrue, min, Option, Some, IfSome, slice_get}
 use Rattle.std.proofs.lemmas.List.{length-take}
 use Rattle.std.proofs.lemmas.Bool.Decides.{nat_tests}
 use Rattle.sessions.specs.declared.serving.TheConstants.{INPUT_LIMIT}
@@ -48,17 +48,17 @@ input_is left input i is told = subst (λ (left : Option (List ℕ)). IfSome lef
 too_few : (taken n : ℕ) → taken ≤ n → taken ≡ INPUT_LIMIT + 1 → n ≤ INPUT_LIMIT → ⊥
 too_few taken n came limit few = absurd (omega (arith, came, limit, few))
 
-session-quiet : (tells : Bool) (old new : Said) (ws : List (List ℕ)) (b : List ℕ) (h : List Entry) (k : ℕ) (end : SessionEnd) (kept : reason.Reason) → RunsSession tells old new ws b h k end kept → IsCalm old new ws k → IsQuiet end.reason × IsQuiet kept
-session-quiet tells old new ws b h k end kept runs calm = (quiet end.reason refl, kept_quiet kept runs.keeping refl)
+session-quiet : (tells : Bool) (old new : Said) (ws : List (List ℕ)) (b : List ℕ) (h : List Entry) (k : ℕ) (end : SessionEnd) (kept : reason.Reason) → IsTrue tells → RunsSession tells old new ws b h k end kept → IsCalm old new ws k → IsQuiet end.reason × IsQuiet kept
+session-quiet tells old new ws b h k end kept tell runs calm = (quiet end.reason refl, kept_quiet kept runs.keeping refl)
   where
-    script : runs.left ≡ Some calm.few.0
-    script = runs.script calm.apart ∙ calm.few.1
+    full : (i : List ℕ) → runs.left ≡ Some i → length i ≤ INPUT_LIMIT → end.reason ≡ SessionLimit → ⊥
+    full i is few limit =
+        let same : i ≡ runs.served.input = input_is runs.left runs.served.input i is runs.served.input_is in
+        let sizes : length i ≡ length runs.served.input = ap (λ (l : List ℕ). length l) same in
+        too_few end.taken (length runs.served.input) runs.served.processed.came (runs.served.processed.limit.0 limit) (subst (λ (n : ℕ). n ≤ INPUT_LIMIT) sizes few)
 
     short : end.reason ≡ SessionLimit → ⊥
-    short limit =
-        let same : calm.few.0 ≡ runs.served.input = input_is runs.left runs.served.input calm.few.0 script runs.served.input_is in
-        let sizes : length calm.few.0 ≡ length runs.served.input = ap (λ (l : List ℕ). length l) same in
-        too_few end.taken (length runs.served.input) runs.served.processed.came (runs.served.processed.limit.0 limit) (subst (λ (n : ℕ). n ≤ INPUT_LIMIT) sizes calm.few.2)
+    short limit = full calm.few.0 (runs.script (λ j below same. full [] (runs.emptied tell j below same) (omega arith) limit) ∙ calm.few.1) calm.few.2 limit
 
     quiet : (reason : reason.Reason) → end.reason ≡ reason → IsQuiet end.reason
     quiet Finished is = inl is
@@ -82,16 +82,16 @@ journal-quiet tells old new name bytes SessionLimit so calm = absurd so
 journal-quiet tells old new name bytes WriteFault so calm = absurd (calm so.1)
 
 -- sessions that ran, where nothing outside failed
-pub sessions-settle : (tells : Bool) (old new : Said) (ws : List (List ℕ)) (b : List ℕ) (ended : told.Ended) → RunsSessions tells old new ws b ended → ((k : ℕ) → HasPair ws k → IsCalm old new ws k) → (Rose (old.writes (word_at ws JOURNAL)) (new.writes (word_at ws JOURNAL)) → ⊥)
+pub sessions-settle : (tells : Bool) (old new : Said) (ws : List (List ℕ)) (b : List ℕ) (ended : told.Ended) → IsTrue tells → RunsSessions tells old new ws b ended → ((k : ℕ) → HasPair ws k → IsCalm old new ws k) → (Rose (old.writes (word_at ws JOURNAL)) (new.writes (word_at ws JOURNAL)) → ⊥)
     → (ended.status ≡ state.Done) ⊎ (ended.status ≡ state.Memory)
-sessions-settle tells old new ws b ended runs calm journal =
+sessions-settle tells old new ws b ended tell runs calm journal =
     subst EndsQuiet (sym runs.status) (quiet-first INPUT _ _ reasons (quiet-first INPUT runs.kept _ keepings (journal-quiet tells old new (word_at ws JOURNAL) _ ended.told.journal runs.journal_file journal)))
   where
     pair : (k : ℕ) → k < length ended.told.sessions.items → HasPair ws k
     pair k within = omega (arith, within, runs.pairs)
 
     both : (k : ℕ) (end : SessionEnd) (kept : reason.Reason) → slice_get ended.told.sessions.items k ≡ Some end → slice_get runs.kept k ≡ Some kept → IsQuiet end.reason × IsQuiet kept
-    both k end kept is also = session-quiet tells old new ws b ended.told.history.items k end kept (runs.sessions k end kept is also) (calm k (pair k (below ended.told.sessions.items k end is)))
+    both k end kept is also = session-quiet tells old new ws b ended.told.history.items k end kept tell (runs.sessions k end kept is also) (calm k (pair k (below ended.told.sessions.items k end is)))
 
     reasons : (k : ℕ) (one : reason.Reason) → slice_get (map (λ (end : SessionEnd). end.reason) ended.told.sessions.items) k ≡ Some one → IsQuiet one
     reasons k one is =

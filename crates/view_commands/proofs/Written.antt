@@ -1,6 +1,6 @@
 -- Commands that read a survey and write a text, put together of their steps.
 use Rattle.std.proofs.Common.{◌≡◌, ℕ, ◌<◌, ◌≤◌, List, Option, Some, None, length, refl, sym, ◌∙◌, ap, subst, inl, inr}
-use Rattle.std.specs.Prelude.{Bool, IfSome, ◌⊎◌, unwrap_or}
+use Rattle.std.specs.Prelude.{Bool, IsTrue, IfSome, ◌⊎◌, unwrap_or}
 use Rattle.std.proofs.lemmas.Bool.{le-leb, lt-leb}
 use Rattle.view_base.specs.declared.fault.SurveyFault.{SurveyFault}
 use Rattle.las_survey.specs.declared.loading.TheConstants.{LIMIT}
@@ -52,12 +52,12 @@ no_survey-settles tells old new name refusal calm (SessionLimit at) none = absur
 
 -- a survey that was read and is laid out settles by what comes after
 pub read-settles : (tells : Bool) (old new : Said) (name b : List ℕ) (refusal : List ℕ → Option status.Status) (calm : Type 0) (ended : status.Status) → IsLaid b → IsReadWhole tells old new name b
-    → ((status : status.Status) → refusal b ≡ Some status → (ended ≡ status) ⊎ (ended ≡ Memory)) → (refusal b ≡ None → calm → (ended ≡ Done) ⊎ (ended ≡ Memory)) → SettlesFile tells old new name refusal calm ended
+    → ((status : status.Status) → refusal b ≡ Some status → (ended ≡ status) ⊎ (ended ≡ Memory)) → (IsTrue tells → refusal b ≡ None → calm → (ended ≡ Done) ⊎ (ended ≡ Memory)) → SettlesFile tells old new name refusal calm ended
 read-settles tells old new name b refusal calm ended laid read refused ends = λ tell c is opened unfailed quiet.
     let same : c ≡ b = same_bytes (old.file name) c b is read.all in
     let decided : status_by b (refusal b) ≡ unwrap_or (refusal b) Done = rw (le-leb (length b) LIMIT read.few, faultless b laid) refl in
     let whole : status_by c (refusal c) ≡ unwrap_or (refusal b) Done = ap (λ (l : List ℕ). status_by l (refusal l)) same ∙ decided in
-    subst (λ (s : status.Status). (ended ≡ s) ⊎ (ended ≡ Memory)) (sym whole) (settled (refusal b) refused (λ none. ends none (quiet (whole ∙ ap (λ (o : Option status.Status). unwrap_or o Done) none))))
+    subst (λ (s : status.Status). (ended ≡ s) ⊎ (ended ≡ Memory)) (sym whole) (settled (refusal b) refused (λ none. ends tell none (quiet (whole ∙ ap (λ (o : Option status.Status). unwrap_or o Done) none))))
   where
     settled : (o : Option status.Status) → ((status : status.Status) → o ≡ Some status → (ended ≡ status) ⊎ (ended ≡ Memory)) → (o ≡ None → (ended ≡ Done) ⊎ (ended ≡ Memory)) → (ended ≡ unwrap_or o Done) ⊎ (ended ≡ Memory)
     settled None refused ends = ends refl
@@ -162,7 +162,7 @@ text-refused tells old new survey out refusal text b ended is laid read took =
     record {
       outcome = inr (b, laid, read, inr (is, took));
       others = λ other apart. took.rest.files other;
-      settled = read-settles tells old new survey b refusal (Rose (old.writes out) (new.writes out) → ⊥) ended laid read (λ other also. inl (the_same (refusal b) ended other is also)) (λ free calm. absurd (refused_alone (refusal b) ended is free));
+      settled = read-settles tells old new survey b refusal (Rose (old.writes out) (new.writes out) → ⊥) ended laid read (λ other also. inl (the_same (refusal b) ended other is also)) (λ tell free calm. absurd (refused_alone (refusal b) ended is free));
     }
   where
     the_same : (o : Option status.Status) (one other : status.Status) → o ≡ Some one → o ≡ Some other → one ≡ other
@@ -185,5 +185,5 @@ text-written tells old mid new survey out refusal text b bytes ended is free lai
     record {
       outcome = inr (b, laid, reads, inl (free, writes));
       others = λ other apart. only.files other apart ∙ took.rest.files other;
-      settled = read-settles tells old new survey b refusal (Rose (old.writes out) (new.writes out) → ⊥) ended laid reads (λ other also. absurd (refused_alone (refusal b) other also free)) (λ none calm. writes-calm tells old new OUT out (text b) ended writes calm);
+      settled = read-settles tells old new survey b refusal (Rose (old.writes out) (new.writes out) → ⊥) ended laid reads (λ other also. absurd (refused_alone (refusal b) other also free)) (λ tell none calm. writes-calm tells old new OUT out (text b) ended writes calm);
     }

@@ -89,10 +89,11 @@ pub record RoseWhere (P : Type 0) (before after : ℕ) : Type 0 where
 -- session k, from 0, over a survey with these bytes, in a run with this history: how it ended, what came of keeping
 -- its output, and what its names count
 pub record RunsSession (tells : Bool) (old new : Said) (ws : List (List ℕ)) (b : List ℕ) (h : List Entry) (k : ℕ) (end : SessionEnd) (kept : reason.Reason) : Type 0 where
-  -- the input is the file of its name, which is there, unless an earlier session's output has the same name
+  -- the input is the file of its name, which is there; it is empty where an earlier session's output has the same name
   pub left : Option (List ℕ)
   pub there : IsTrue tells → IsSome left
   pub script : ((j : ℕ) → j < k → output ws j ≢ input ws k) → left ≡ old.file (input ws k)
+  pub emptied : IsTrue tells → (j : ℕ) → j < k → output ws j ≡ input ws k → left ≡ Some []
   -- what the output had got when the session began: nothing, where the desk tells it
   pub start : Option (List ℕ)
   pub empty : IsTrue tells → start ≡ Some []
@@ -129,13 +130,14 @@ pub record RunsSessions (tells : Bool) (old new : Said) (ws : List (List ℕ)) (
   pub journal_file : KeepsText tells old new (word_at ws JOURNAL) (journal_text (journal ended.told.history.items)) ended.told.journal
   -- the status is that of the first session with a fault, else of the first output that was not kept, else of the journal
   pub status : ended.status ≡ first_fault INPUT (map (λ end. end.reason) ended.told.sessions.items) (first_fault INPUT kept (status_at JOURNAL JOURNAL ended.told.journal))
-  -- no file changed but those of the outputs and of the journal
-  pub files : (other : List ℕ) → ((k : ℕ) → HasPair ws k → other ≢ output ws k) → other ≢ word_at ws JOURNAL → new.file other ≡ old.file other
+  -- no count of reading changed but of the survey and the inputs; no file and no count of writing but of the outputs and
+  -- the journal
+  pub reading : (other : List ℕ) → ((k : ℕ) → HasPair ws k → other ≢ input ws k) → other ≢ word_at ws SURVEY → (new.unopened other ≡ old.unopened other) × (new.reads other ≡ old.reads other) × (new.taken other ≡ old.taken other)
+  pub writing : (other : List ℕ) → ((k : ℕ) → HasPair ws k → other ≢ output ws k) → other ≢ word_at ws JOURNAL → (new.file other ≡ old.file other) × (new.writes other ≡ old.writes other) × (new.unkept other ≡ old.unkept other)
 
--- nothing of session k failed outside, and its input is not too long and not written by an earlier session
+-- nothing of session k failed outside, and its input is not too long
 pub record IsCalm (old new : Said) (ws : List (List ℕ)) (k : ℕ) : Type 0 where
   pub few : (i : List ℕ) × (old.file (input ws k) ≡ Some i) × (length i ≤ INPUT_LIMIT)
-  pub apart : (j : ℕ) → j < k → output ws j ≢ input ws k
   pub opened : Rose (old.unopened (input ws k)) (new.unopened (input ws k)) → ⊥
   pub read : Rose (old.reads (input ws k)) (new.reads (input ws k)) → ⊥
   pub written : Rose (old.writes (output ws k)) (new.writes (output ws k)) → ⊥

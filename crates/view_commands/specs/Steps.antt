@@ -45,6 +45,10 @@ pub record RunsRow (row : row.Row) (tells : Bool) (old new : Said) (ws : List (L
   pub refused : (at : ℕ) → badword (row ∷ []) ws ≡ Some at → (ended.status ≡ Words at) × Untouched old new × IsNothing ended.told
   pub line : IsLine row ws → RunsLine row tells old new ws ended
 
+-- the root pass of a gate, once so many passes are split off
+abbrev pub root_of : TableId → ℕ → Passed Entry
+root_of gate n = record { gate = gate; who = 0; seen = []; mine = []; turn = None; root = true; out = n; given = n; kept = [] }
+
 -- what belongs to a session, as it is at a moment: its input, its output, its pass, and how it ended
 pub record Seated : Type 0 where
   pub input : SourceSaid
@@ -102,6 +106,7 @@ pub record OpensSession (tells : Bool) (old new : Said) (ws : List (List ℕ)) (
 pub record IsOpened (tells : Bool) (old new : Said) (ws : List (List ℕ)) (gate : TableId) (k : ℕ) (seat : Seated) : Type 0 where
   pub fresh : IsFresh tells gate k seat
   pub script : ((j : ℕ) → j < k → output ws j ≢ input ws k) → seat.input.left ≡ old.file (input ws k)
+  pub emptied : IsTrue tells → (j : ℕ) → j < k → output ws j ≡ input ws k → seat.input.left ≡ Some []
   pub input_known : IsKnown new (input ws k)
   pub output_known : IsKnown new (output ws k)
 
@@ -234,7 +239,7 @@ pub record RunsAll (tells : Bool) (old new : Said) (ws : List (List ℕ)) (b : L
   pub opens : OpensAll tells old began ws gate begun
   pub serves : AllZip (IsServed b) begun served
   pub pairs : length ws ≡ 4 + 2 * length begun
-  pub finishes : FinishesRun tells began new ws served (record { gate = gate; who = 0; seen = []; mine = []; turn = None; root = true; out = length begun; given = length begun; kept = [] }) ended
+  pub finishes : FinishesRun tells began new ws served (root_of gate (length begun)) ended
 
 -- not all names were opened, or the sessions ran
 abbrev pub ServesIn : Bool → Said → Said → List (List ℕ) → List ℕ → Ended → Type 0

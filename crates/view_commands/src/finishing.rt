@@ -55,7 +55,8 @@ pub(crate) fn finish_all<D: Desk>(
     requires ends_room { length (into_iter_items seats) ≤ outcomes.old.ends.spare }
     requires kept_room { length (into_iter_items seats) ≤ outcomes.old.kept.spare }
     ensures ends { outcomes.new.ends.items ≡ outcomes.old.ends.items ++ map (λ seat. seat.end) (into_iter_items seats) }
-    ensures kept { (kept : List Reason) × (outcomes.new.kept.items ≡ outcomes.old.kept.items ++ kept) × FinishesAll (texts words.now) k (into_iter_items seats) kept (D.says desk.old) (D.says desk.new) }
+    ensures kept { (kept : List Reason) × (outcomes.new.kept.items ≡ outcomes.old.kept.items ++ kept)
+        × FinishesAll (texts words.now) k (into_iter_items seats) kept (D.says desk.old) (D.says desk.new) }
     ensures joined { JoinsAll (into_iter_items seats) root.old root.new }
 {
     match seats.next() {
@@ -88,7 +89,8 @@ fn finish<D: Desk>(
     ensures ends { outcomes.new.ends.items ≡ outcomes.old.ends.items ++ seat.end ∷ [] }
     ensures ends_spare { outcomes.old.ends.spare ≤ outcomes.new.ends.spare + 1 }
     ensures kept_spare { outcomes.old.kept.spare ≤ outcomes.new.kept.spare + 1 }
-    ensures kept { (kept : Reason) × (outcomes.new.kept.items ≡ outcomes.old.kept.items ++ kept ∷ []) × Finishes (D.says desk.old) (D.says desk.new) (input (texts words.now) k) (output (texts words.now) k) seat kept }
+    ensures kept { (kept : Reason) × (outcomes.new.kept.items ≡ outcomes.old.kept.items ++ kept ∷ [])
+        × Finishes (D.says desk.old) (D.says desk.new) (input (texts words.now) k) (output (texts words.now) k) seat kept }
     ensures joined { Joins root.old root.new seat.pass }
 {
     let (input, output, pass, end) = seat.into_parts();

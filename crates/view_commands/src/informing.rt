@@ -32,7 +32,8 @@ pub fn info<D: Desk>(alloc: Global, words: &[String], desk: &mut D) -> Status
 fn info_line<D: Desk>(alloc: Global, words: &[String], desk: &mut D) -> Status
     requires line { IsLine Row.Info (texts words.now) }
     requires long { 3 ≤ length words.now }
-    ensures { MakesText D.tells (D.says desk.old) (D.says desk.new) (word_at (texts words.now) 1) (word_at (texts words.now) 2) (λ b. None) told.info_text result }
+    ensures { MakesText D.tells (D.says desk.old) (D.says desk.new) (word_at (texts words.now) 1) (word_at (texts words.now) 2)
+        (λ b. None) told.info_text result }
 {
     info_file(alloc, text_at(words, 1), text_at(words, 2), desk)
 }

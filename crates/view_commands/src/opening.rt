@@ -1,10 +1,12 @@
-ghost use Rattle.std.specs.Prelude.{◌≡◌, ◌+◌, ◌*◌, ◌<◌, ◌≤◌, true, None, [], length, vec_capacity, vec_len, IfErr, IfOk, IsSome, IsTrue, OnOk};
+ghost use Rattle.std.specs.Prelude.{◌≡◌, ◌+◌, ◌*◌, ◌<◌, ◌≤◌, true, [], length, vec_capacity, vec_len, IfErr, IfOk, IsSome, IsTrue, OnOk};
 ghost use Rattle.std.specs.Vec.Iter.{into_iter_items};
 ghost use Rattle.view_ends.specs.Calls.{IsFreshIn};
 ghost use Rattle.view_base.specs.Fitting.{word_at};
 ghost use Rattle.view_words.specs.CommandLine.{IsLine, texts};
 ghost use Rattle.view_commands.specs.Run.{HasPair, input, output};
-ghost use Rattle.view_commands.specs.Steps.{AreOpened, EachFrom, IsOpened, IsUnread, IsUnwritten, OpensAll, OpensRead, OpensSession, OpensWritten, RefusesNext, RefusesOpening, RefusesRead, RefusesWritten, ShutsUnread};
+ghost use Rattle.view_commands.specs.Steps.{AreOpened, EachFrom, IsOpened, IsUnread, IsUnwritten, ShutsUnread, root_of};
+ghost use Rattle.view_commands.specs.Steps.{OpensAll, OpensRead, OpensSession, OpensWritten};
+ghost use Rattle.view_commands.specs.Steps.{RefusesNext, RefusesOpening, RefusesRead, RefusesWritten};
 
 use crate::places::{INPUT, JOURNAL, OUTPUT};
 use crate::seats::Seat;
@@ -57,7 +59,7 @@ pub(crate) fn open_all<D: Desk>(
     requires pairs { length words.now ≡ 4 + 2 * count }
     requires some { 1 ≤ count }
     requires few { count ≤ 16 }
-    requires root { root.old ≡ record { gate = shared.now.name; who = 0; seen = []; mine = []; turn = None; root = true; out = 0; given = 0; kept = [] } }
+    requires root { root.old ≡ root_of shared.now.name 0 }
     requires none { seats.old.items ≡ [] }
     requires room { count ≤ vec_capacity seats.old }
     ensures opened { OnOk result (OpensAll D.tells (D.says desk.old) (D.says desk.new) (texts words.now) shared.now.name seats.new.items) }
@@ -85,7 +87,7 @@ fn open_sessions<D: Desk>(
     requires line { IsLine Row.Serve (texts words.now) }
     requires pairs { length words.now ≡ 4 + 2 * count }
     requires few { count ≤ 16 }
-    requires root { root.old ≡ record { gate = shared.now.name; who = 0; seen = []; mine = []; turn = None; root = true; out = 0; given = 0; kept = [] } }
+    requires root { root.old ≡ root_of shared.now.name 0 }
     requires none { seats.old.items ≡ [] }
     requires room { count ≤ vec_capacity seats.old }
     ensures opened { OnOk result (AreOpened D.tells (D.says desk.old) (D.says desk.new) (texts words.now) shared.now.name seats.new.items) }
@@ -137,7 +139,8 @@ fn open_session<D: Desk>(
 /// Opens the name at a place for reading.
 fn open_read<D: Desk>(desk: &mut D, words: &[String], at: u32) -> Result<D::In, Status>
     requires { at < length words.now }
-    ensures fresh { IfOk result (λ input. IsFreshIn ((D.says desk.old).file (word_at (texts words.now) at)) (D.In.left input) (D.In.taken input) (D.In.faults input)) }
+    ensures fresh { IfOk result (λ input. IsFreshIn ((D.says desk.old).file (word_at (texts words.now) at))
+        (D.In.left input) (D.In.taken input) (D.In.faults input)) }
     ensures there { IsTrue D.tells → OnOk result (IsSome ((D.says desk.old).file (word_at (texts words.now) at))) }
     ensures opened { OnOk result (OpensRead (D.says desk.old) (D.says desk.new) (word_at (texts words.now) at)) }
     ensures refused { IfErr result (λ status. RefusesRead (D.says desk.old) (D.says desk.new) (word_at (texts words.now) at) at status) }

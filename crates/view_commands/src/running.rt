@@ -1,5 +1,7 @@
+ghost use Rattle.std.specs.Prelude.{◌≡◌};
 ghost use Rattle.view_commands.specs.Run.{Runs};
 ghost use Rattle.view_commands.specs.Steps.{RunsRow};
+ghost use Rattle.view_commands.specs.declared.places.TheConstants.{INPUT, JOURNAL, OUT, OUTPUT, SURVEY, TRIAL_OUT};
 ghost use Rattle.view_words.specs.CommandLine.{texts};
 
 use crate::drawing::draw;
@@ -22,7 +24,8 @@ pub fn run<R: Threads + Wait + Sync, D: Desk, B: Beside>(
     desk: &mut D,
     beside: &B,
 ) -> Ended
-    ensures { Runs D.tells (D.says desk.old) (D.says desk.new) (texts words.now) result }
+    ensures runs { Runs D.tells (D.says desk.old) (D.says desk.new) (texts words.now) result }
+    ensures places { (SURVEY ≡ 1) × (OUT ≡ 2) × (TRIAL_OUT ≡ 4) × (JOURNAL ≡ 3) × (INPUT ≡ 4) × (OUTPUT ≡ 5) }
 {
     match row_of(words) {
         Some(row) => run_row(alloc, rt, row, words, desk, beside),

@@ -25,7 +25,12 @@ impl<I: Source, O: Sink> Model for Seat<I, O> {
 
     ghost Value = { Seated };
 
-    ghost view = { λ s. record { input = record { left = I.left s.input; taken = I.taken s.input; faults = I.faults s.input }; output = record { got = O.got s.output; faults = O.faults s.output }; pass = s.pass; end = s.end } };
+    ghost view = { λ s. record {
+      input = record { left = I.left s.input; taken = I.taken s.input; faults = I.faults s.input };
+      output = record { got = O.got s.output; faults = O.faults s.output };
+      pass = s.pass;
+      end = s.end;
+    } };
 }
 
 impl<I: Source, O: Sink> Seat<I, O> {

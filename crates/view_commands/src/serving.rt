@@ -1,11 +1,12 @@
 ghost use Rattle.std.specs.Arc.{arc_value};
-ghost use Rattle.std.specs.Prelude.{◌≡◌, ◌+◌, ◌*◌, ◌≤◌, true, None, [], length, vec_capacity, IfOk};
+ghost use Rattle.std.specs.Prelude.{◌≡◌, ◌+◌, ◌*◌, ◌≤◌, [], pos, length, vec_capacity, Some, IfOk};
 ghost use Rattle.sessions.specs.Worlds.{IsWorld};
 ghost use Rattle.view_base.specs.Fitting.{word_at};
+ghost use Rattle.view_base.specs.Text.{number};
 ghost use Rattle.view_ends.specs.Desk.{IsKnown};
-ghost use Rattle.view_words.specs.CommandLine.{IsLine, texts};
+ghost use Rattle.view_words.specs.CommandLine.{IsLine, texts, workers_place};
 ghost use Rattle.view_commands.specs.Run.{ServesLine};
-ghost use Rattle.view_commands.specs.Steps.{CanFinish, EachFrom, FinishesRun, IsRoomFor, IsUnwritten, ServesIn};
+ghost use Rattle.view_commands.specs.Steps.{CanFinish, EachFrom, FinishesRun, IsRoomFor, IsUnwritten, ServesIn, root_of};
 ghost use Rattle.view_commands.specs.declared.places.TheConstants.{JOURNAL};
 
 use crate::finishing::{Outcomes, finish_all};
@@ -74,8 +75,9 @@ fn make_room<R: Threads + Sync, I: Source, O: Sink>(
 ) -> Result<Room<I, O>, OutOfMemory>
     requires workers { (1 ≤ workers) × (workers ≤ 64) }
     ensures world { IfOk result (λ room. IsWorld room.world) }
+    ensures workers { IfOk result (λ room. room.world.scene.workers ≡ workers) }
     ensures survey { IfOk result (λ room. arc_value room.world.scene.survey ≡ survey) }
-    ensures root { IfOk result (λ room. room.root ≡ record { gate = room.world.shared.name; who = 0; seen = []; mine = []; turn = None; root = true; out = 0; given = 0; kept = [] }) }
+    ensures root { IfOk result (λ room. room.root ≡ root_of room.world.shared.name 0) }
     ensures none { IfOk result (λ room. room.seats.items ≡ []) }
     ensures room { IfOk result (λ room. count ≤ vec_capacity room.seats) }
     ensures outcomes { IfOk result (λ room. IsRoomFor count room.outcomes) }
@@ -111,7 +113,8 @@ fn shared_words(alloc: Global) -> EmptyWords {
     }
 }
 
-/// Opens all names, and serves the sessions where that is not refused.
+/// Opens all names, and serves the sessions where that is not refused. Their pictures have as many
+/// workers as the word of the line says.
 fn serve_in<R: Threads + Wait + Sync, D: Desk, B: Beside>(
     alloc: Global,
     rt: &R,
@@ -126,7 +129,8 @@ fn serve_in<R: Threads + Wait + Sync, D: Desk, B: Beside>(
     requires some { 1 ≤ count }
     requires few { count ≤ 16 }
     requires world { IsWorld room.world }
-    requires root { room.root ≡ record { gate = room.world.shared.name; who = 0; seen = []; mine = []; turn = None; root = true; out = 0; given = 0; kept = [] } }
+    requires workers { number (word_at (texts words.now) (workers_place Row.Serve)) ≡ Some (pos room.world.scene.workers) }
+    requires root { room.root ≡ root_of room.world.shared.name 0 }
     requires none { room.seats.items ≡ [] }
     requires room { count ≤ vec_capacity room.seats }
     requires outcomes { IsRoomFor count room.outcomes }
@@ -173,7 +177,7 @@ fn finish_run<D: Desk>(
     requires pairs { length words.now ≡ 4 + 2 * length seats.items }
     requires some { 1 ≤ length seats.items }
     requires few { length seats.items ≤ 16 }
-    requires root { root ≡ record { gate = shared.name; who = 0; seen = []; mine = []; turn = None; root = true; out = length seats.items; given = length seats.items; kept = [] } }
+    requires root { root ≡ root_of shared.name (length seats.items) }
     requires seats { EachFrom (CanFinish (D.says desk.old) (texts words.now) shared.name) 0 seats.items }
     requires outcomes { IsRoomFor (length seats.items) outcomes }
     requires journal { IsUnwritten D.tells (D.Out.got journal) (D.Out.faults journal) }

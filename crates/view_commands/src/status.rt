@@ -63,7 +63,8 @@ pub fn code(status: &Status) -> u8
 pub(crate) fn status_of(ends: &Ends, kept: &Listing<Reason>, journal: Reason) -> Status
     requires ends { length ends.now.items ≤ 16 }
     requires kept { length kept.now.items ≤ 16 }
-    ensures { result ≡ serve.first_fault INPUT (map (λ end. end.reason) ends.now.items) (serve.first_fault INPUT kept.now.items (serve.status_at JOURNAL JOURNAL journal)) }
+    ensures { result ≡ serve.first_fault INPUT (map (λ end. end.reason) ends.now.items)
+        (serve.first_fault INPUT kept.now.items (serve.status_at JOURNAL JOURNAL journal)) }
 {
     let journal = status_at(JOURNAL, JOURNAL, journal);
     let kept = first_fault(INPUT, kept.as_slice(), journal);

@@ -1,4 +1,4 @@
-ghost use Rattle.std.specs.Prelude.{◌≡◌, ◌^◌, ◌≤◌, ◌++◌, [], length, IfOk, OnOk};
+ghost use Rattle.std.specs.Prelude.{◌≡◌, ◌^◌, ◌≤◌, ◌++◌, [], codes, length, IfOk, OnOk};
 ghost use Rattle.std.specs.Arc.{arc_value};
 ghost use Rattle.sessions.specs.Worlds.{IsScene};
 ghost use Rattle.survey_make.specs.Made.{made};
@@ -8,7 +8,7 @@ ghost use Rattle.view_words.specs.CommandLine.{IsLine, texts};
 ghost use Rattle.view_commands.specs.Calls.{AnswersTrial};
 ghost use Rattle.view_commands.specs.Trial.{script_replies, TriesLine, WritesSummary, summary};
 ghost use Rattle.view_commands.specs.Steps.{IsStage};
-ghost use Rattle.view_commands.specs.declared.script.TheConstants.{FORMAT};
+ghost use Rattle.view_commands.specs.declared.script.TheConstants.{COUNT, FORMAT, FROM_ABOVE, IN_PERSPECTIVE, RECLASSIFY};
 
 use crate::places::TRIAL_OUT;
 use crate::script::{COUNT, FORMAT, FROM_ABOVE, IN_PERSPECTIVE, RECLASSIFY};
@@ -42,7 +42,13 @@ pub fn trial<R: Threads + Sync, D: Desk, B: Beside>(
     desk: &mut D,
     beside: &B,
 ) -> Status
-    ensures { AnswersTrial D.tells (D.says desk.old) (D.says desk.new) (texts words.now) result }
+    ensures answers { AnswersTrial D.tells (D.says desk.old) (D.says desk.new) (texts words.now) result }
+    ensures format { FORMAT ≡ 7 }
+    ensures first { FROM_ABOVE.now ≡ codes "view ortho 256 256 32768 32768 0 1 0 0 0 1 0 0 0 1 256 1 0 65535 class all show" }
+    ensures second { RECLASSIFY.now ≡ codes "edit 0 0 0 65535 65535 1023 all 2" }
+    ensures third { IN_PERSPECTIVE.now
+        ≡ codes "view persp 256 256 32768 32768 -65536 1 0 0 0 1 0 0 0 1 128 16 1 65535 intensity all hide" }
+    ensures fourth { COUNT.now ≡ codes "count 2 show" }
 {
     match read_row(Row::Trial, words) {
         Ok(()) => trial_line(alloc, rt, words, desk, beside),
@@ -159,7 +165,8 @@ fn replies_over<R: Threads + Sync, B: Beside>(
     requires format { format_of (arc_value scene.now.survey) ≡ FORMAT }
     ensures { IfOk result (λ out. out.items ≡ script_replies (arc_value scene.now.survey)) }
 {
-    let mut store = Store::new(alloc, Arc::try_clone(&scene.survey)?)?;
+    let survey = Arc::try_clone(&scene.survey)?;
+    let mut store = Store::over(alloc, survey, Arc::try_clone(&scene.blocks)?)?;
     let mut out = Bytes::new(alloc);
     append_replies(alloc, rt, scene, &mut store, beside, &mut out)?;
     Ok(out)

@@ -9,4 +9,4 @@ pub returns-in-Info : goal.returns-in-Info
 returns-in-Info g c = rw c.in-Info.is (row-info _ _ _ (texts c.args.words.now) c.info.result _ c.only-in-Info.ensures.status c.only-in-Info.ensures.told c.info.ensures)
 
 pub returns-in-Trial : goal.returns-in-Trial
-returns-in-Trial g c = rw c.in-Trial.is (row-trial _ _ _ (texts c.args.words.now) c.trial.result _ c.only-in-Trial.ensures.status c.only-in-Trial.ensures.told c.trial.ensures)
+returns-in-Trial g c = rw c.in-Trial.is (row-trial _ _ _ (texts c.args.words.now) c.trial.result _ c.only-in-Trial.ensures.status c.only-in-Trial.ensures.told c.trial.ensures.answers)
