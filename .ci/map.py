@@ -24,7 +24,6 @@ USED = " *Used by "
 ON_TOP = ("view_main", "acceptance_", "unit_")
 # So many users of a crate are named.
 MOST = 12
-KIT = {"atomic_table", "byteorder", "itoa", "rayon", "thiserror"}
 
 
 def layers(below):
@@ -57,7 +56,8 @@ def drawing(page, below):
 
 def kit(below):
     """Which crates list each crate of the kit."""
-    listed = [f"`{name}` by {named([crate for crate, others in below.items() if name in others])}" for name in sorted(KIT)]
+    names = sorted({name for others in below.values() for name in others} - set(below))
+    listed = [f"`{name}` by {named([crate for crate, others in below.items() if name in others])}" for name in names]
     return "Of the kit they list " + "; ".join(listed) + ".\n"
 
 
