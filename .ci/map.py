@@ -6,8 +6,8 @@
 
 A layer is one above the highest crate that a crate lists in crates.txt. Behind each crate of the drawing
 stands what goes through it: a `view`, by the letter v, and an `edit`, by e; these are the crates in the two
-drawings of the ways, which are written by hand. A crate is used by those whose code, tests aside, or whose
-definitions have a `use` line of it or of its definitions. Each crate has to have one paragraph, which begins
+drawings of the ways, which are written by hand. A crate is used by those, crates of tests aside, whose code
+or definitions have a `use` line of it or of its definitions. Each crate has to have one paragraph, which begins
 with its name; a name in the drawings that looks like a crate's has to be one; and a name in brackets of
 what a crate promises has to be that of a clause, a function or a definition there or in view_meaning. So has
 each name by which README.md says that something is proved, in some crate.
@@ -20,8 +20,9 @@ from sources import ROOT, between, known_words, settle, source_files, stands_on
 
 PAGE = "docs/ARCHITECTURE.md"
 USED = " *Used by "
-# What nothing stands on: the program, and the crates of tests.
-ON_TOP = ("view_main", "acceptance_", "unit_")
+# What nothing stands on: the program, and the crates of tests. Those of unit tests aren't drawn.
+TESTS = ("acceptance_", "unit_")
+ON_TOP = ("view_main", *TESTS)
 # So many users of a crate are named.
 MOST = 12
 
@@ -48,7 +49,7 @@ def drawing(page, below):
         sys.exit(f"{PAGE}: a way goes through {', '.join(wrong)}, which is no crate")
     found, out = layers(below), []
     for layer in range(max(found.values()), 0, -1):
-        here = [crate for crate in below if found[crate] == layer]
+        here = [crate for crate in below if found[crate] == layer and not crate.startswith("unit_")]
         marked = [" ".join([crate] + ["".join(mark for mark, names in ways.items() if crate in names)]).strip() for crate in here]
         out.append(f"{layer:>2}  " + "".join(f"{text:<22}" for text in marked).rstrip())
     return "```text\n" + "\n".join(out) + "\n```\n"
@@ -57,7 +58,8 @@ def drawing(page, below):
 def kit(below):
     """Which crates list each crate of the kit."""
     names = sorted({name for others in below.values() for name in others} - set(below))
-    listed = [f"`{name}` by {named([crate for crate, others in below.items() if name in others])}" for name in names]
+    code = {crate: others for crate, others in below.items() if not crate.startswith(TESTS)}
+    listed = [f"`{name}` by {named([crate for crate, others in code.items() if name in others])}" for name in names]
     return "Of the kit they list " + "; ".join(listed) + ".\n"
 
 
@@ -76,6 +78,8 @@ def users(below):
     """Who uses each crate."""
     found = {crate: set() for crate in below}
     for crate in below:
+        if crate.startswith(TESTS):
+            continue
         code = [path for path in source_files(crate) if "tests" not in path.stem and "tests" not in path.parent.name]
         used = {name for path in code for name in re.findall(r"^\s*(?:pub )?use (\w+)::", path.read_text(), re.M)}
         meant = [*code, *(ROOT / "crates" / crate / "specs").glob("**/*.antt")]
