@@ -1,5 +1,5 @@
-use crate::test_files::{EMPTY, EMPTY_1_2, EMPTY_1_3, Fields, append_header, append_vlr};
-use crate::{Header, HeaderFault, LoadFault, Survey, SurveyFault, VlrPlace, load};
+use crate::survey_files::{EMPTY, EMPTY_1_2, EMPTY_1_3, Fields, append_header, append_vlr};
+use las_survey::{Header, HeaderFault, LoadFault, Survey, SurveyFault, VlrPlace, load};
 use std::alloc::Global;
 use std::process::Abort;
 use std::test::Fail;
@@ -7,7 +7,7 @@ use view_base::{Bytes, OutOfMemory};
 use view_ends::StillSource;
 
 /// The survey of a file's bytes.
-fn loaded(alloc: Global, file: &[u8]) -> Result<Survey, LoadFault> {
+pub fn loaded(alloc: Global, file: &[u8]) -> Result<Survey, LoadFault> {
     let mut bytes = Bytes::new(alloc);
     bytes.append(file)?;
     load(alloc, &mut StillSource::new(bytes))

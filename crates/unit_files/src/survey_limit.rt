@@ -1,6 +1,6 @@
 ghost use Rattle.std.specs.Prelude.{◌≤◌, None};
 
-use crate::{HeaderFault, LoadFault, SurveyFault, load};
+use las_survey::{HeaderFault, LoadFault, SurveyFault, load};
 use view_ends::{Failed, Source};
 
 /// So many zeros, which are not told beforehand.

@@ -1,8 +1,8 @@
-use crate::test_files::{
+use crate::survey_faults::{found, found_in_header, is_loaded, is_refused};
+use crate::survey_files::{
     EMPTY, EMPTY_1_2, EMPTY_1_3, Fields, append_evlr, append_header, append_records, append_vlr,
 };
-use crate::tests::{found, found_in_header, is_loaded, is_refused};
-use crate::{Header, HeaderFault, LoadFault, SurveyFault, VlrPlace};
+use las_survey::{Header, HeaderFault, LoadFault, SurveyFault, VlrPlace};
 use std::alloc::Global;
 use std::process::Abort;
 use std::test::Fail;
@@ -23,7 +23,7 @@ const PLAIN_1_2: Header = Header {
 
 /// Of LAS 1.2: two variable length records at 227 and 289, a gap of 5 bytes at 347, and two point
 /// records up to 392.
-fn fill_1_2(bytes: &mut Bytes) -> Result<(), OutOfMemory> {
+pub fn fill_1_2(bytes: &mut Bytes) -> Result<(), OutOfMemory> {
     let fields = Fields {
         points_at: 352,
         vlrs: 2,
@@ -50,7 +50,7 @@ fn fill_1_3(bytes: &mut Bytes) -> Result<(), OutOfMemory> {
 
 /// Of LAS 1.4 in format 7: a variable length record at 375, three point records of 40 bytes at 437,
 /// an extended record at 557, and 3 bytes after it, up to 624.
-fn fill_1_4(bytes: &mut Bytes) -> Result<(), OutOfMemory> {
+pub fn fill_1_4(bytes: &mut Bytes) -> Result<(), OutOfMemory> {
     let fields = Fields {
         points_at: 437,
         vlrs: 1,
