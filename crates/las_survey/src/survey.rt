@@ -3,7 +3,8 @@ ghost use Rattle.las_survey.specs.Beside.{class_at, SameFields};
 ghost use Rattle.las_vlr.specs.Places.{vlr_places, evlr_places};
 ghost use Rattle.view_meaning.specs.Layout as layout;
 ghost use Rattle.view_meaning.specs.Layout.{IsLaid, least_length};
-ghost use Rattle.view_meaning.specs.Survey.{header_size, points_at, vlr_count, evlrs_at, evlr_count, format_of, record_at, record_count, record_length, points_end};
+ghost use Rattle.view_meaning.specs.Survey.{header_size, points_at, vlr_count, evlrs_at, evlr_count};
+ghost use Rattle.view_meaning.specs.Survey.{format_of, record_at, record_count, record_length, points_end};
 
 use crate::loading::LoadFault;
 use las_header::{Header, read_header};
