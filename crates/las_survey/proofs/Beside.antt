@@ -158,3 +158,10 @@ kept-class_at b inside h vlrs evlrs i size place kept same long here =
     let bytes : size ≡ record_length b = long ∙ kept.fields.bytes_a_record ∙ ap record_length same in
     let column : place ≡ class_place (format_of b) = here ∙ ap class_place (kept.fields.format ∙ ap format_of same) in
     rw (first, bytes, column) refl
+
+-- a survey's list with a byte set at that place is the file with the class byte of the record set
+pub kept-class_set : (b inside : List ℕ) (h : Header) (vlrs evlrs : List VlrPlace) (i size place byte : ℕ) (new : List ℕ) → IsKept inside h vlrs evlrs → inside ≡ b
+    → size ≡ h.«length» → place ≡ class_place h.format → new ≡ slice_set inside (h.points_at + i * size + place) byte → new ≡ slice_set b (class_at b i) byte
+kept-class_set b inside h vlrs evlrs i size place byte new kept same long here sets =
+    sets ∙ ap (λ (l : List ℕ). slice_set l (h.points_at + i * size + place) byte) same
+    ∙ ap (λ (k : ℕ). slice_set b k byte) (kept-class_at b inside h vlrs evlrs i size place kept same long here)

@@ -1,11 +1,10 @@
-use Rattle.std.proofs.Common.{◌≡◌, ◌≤◌, ◌<◌, ℕ, List, length, ap, ◌∙◌, arith}
-use Rattle.std.specs.Prelude.{slice_set}
+use Rattle.std.proofs.Common.{◌≡◌, ◌≤◌, ◌<◌, ℕ, List, length, ap, arith}
 use Rattle.view_meaning.specs.Survey.{points_end}
 use Rattle.las_survey.specs.Beside.{class_at}
 use Rattle.las_survey.specs.Kept.{IsKept}
 use Rattle.las_survey.proofs.Kept.{kept-sound}
 use Rattle.las_survey.proofs.Laid.{IsSound}
-use Rattle.las_survey.proofs.Beside.{class-beside, class_at-within, fields-beside, laid-beside, kept-beside, kept-class_at}
+use Rattle.las_survey.proofs.Beside.{class-beside, class_at-within, fields-beside, laid-beside, kept-beside, kept-class_at, kept-class_set}
 use Rattle.las_survey.proofs.survey.Survey.set_class_byte.Goals as goal
 
 pub class_place-requires : goal.class_place-requires
@@ -24,37 +23,28 @@ set_byte-requires c =
     let all : length c.self.inside.bytes.items ≡ length b = ap length same in
     omega (arith, here, within, points, all)
 
-set_is : (b items : List ℕ) (at there byte : ℕ) (new : List ℕ) → new ≡ slice_set items at byte → items ≡ b → at ≡ there → new ≡ slice_set b there byte
-set_is b items at there byte new sets same here = sets ∙ ap (λ (l : List ℕ). slice_set l at byte) same ∙ ap (λ (k : ℕ). slice_set b k byte) here
-
 pub returns-clause-bytes : goal.returns-clause-bytes
-returns-clause-bytes c =
-    let b : List ℕ = c.args.self.now in
-    let here = kept-class_at b _ _ _ _ c.args.i c.from.result c.class_place.result c.self.invariant c.self.view_is c.from.ensures c.class_place.ensures in
-    set_is b _ _ _ c.args.byte _ c.set_byte.ensures c.self.view_is here
+returns-clause-bytes c = kept-class_set _ _ _ _ _ c.args.i _ _ c.args.byte _ c.self.invariant c.self.view_is c.from.ensures c.class_place.ensures c.set_byte.ensures
 
 pub returns-clause-fields : goal.returns-clause-fields
 returns-clause-fields c =
     let b : List ℕ = c.args.self.now in
-    let here = kept-class_at b _ _ _ _ c.args.i c.from.result c.class_place.result c.self.invariant c.self.view_is c.from.ensures c.class_place.ensures in
     let sound : IsSound b = kept-sound _ _ _ _ _ c.self.invariant c.self.view_is in
-    let sets = set_is b _ _ _ c.args.byte _ c.set_byte.ensures c.self.view_is here in
+    let sets = kept-class_set b _ _ _ _ c.args.i _ _ c.args.byte _ c.self.invariant c.self.view_is c.from.ensures c.class_place.ensures c.set_byte.ensures in
     rw sets (fields-beside b _ sound (class-beside b c.args.i c.args.byte sound c.requires))
 
 pub returns-clause-laid : goal.returns-clause-laid
 returns-clause-laid c =
     let b : List ℕ = c.args.self.now in
-    let here = kept-class_at b _ _ _ _ c.args.i c.from.result c.class_place.result c.self.invariant c.self.view_is c.from.ensures c.class_place.ensures in
     let sound : IsSound b = kept-sound _ _ _ _ _ c.self.invariant c.self.view_is in
-    let sets = set_is b _ _ _ c.args.byte _ c.set_byte.ensures c.self.view_is here in
+    let sets = kept-class_set b _ _ _ _ c.args.i _ _ c.args.byte _ c.self.invariant c.self.view_is c.from.ensures c.class_place.ensures c.set_byte.ensures in
     let kept : IsKept b c.self.inside.header c.self.inside.vlrs.items c.self.inside.evlrs.items = rw (← c.self.view_is) c.self.invariant in
     rw sets (laid-beside b _ kept.laid (class-beside b c.args.i c.args.byte sound c.requires))
 
 pub invariant_of-self : goal.invariant_of-self
 invariant_of-self c =
     let b : List ℕ = c.args.self.now in
-    let here = kept-class_at b _ _ _ _ c.args.i c.from.result c.class_place.result c.self.invariant c.self.view_is c.from.ensures c.class_place.ensures in
     let sound : IsSound b = kept-sound _ _ _ _ _ c.self.invariant c.self.view_is in
-    let sets = set_is b _ _ _ c.args.byte _ c.set_byte.ensures c.self.view_is here in
+    let sets = kept-class_set b _ _ _ _ c.args.i _ _ c.args.byte _ c.self.invariant c.self.view_is c.from.ensures c.class_place.ensures c.set_byte.ensures in
     let kept : IsKept b c.self.inside.header c.self.inside.vlrs.items c.self.inside.evlrs.items = rw (← c.self.view_is) c.self.invariant in
     rw sets (kept-beside b _ _ _ _ kept (class-beside b c.args.i c.args.byte sound c.requires))
