@@ -20,9 +20,9 @@ from sources import ROOT, between, known_words, settle, source_files, stands_on
 
 PAGE = "docs/ARCHITECTURE.md"
 USED = " *Used by "
-# What nothing stands on: the program, and the crates of tests. Those of unit tests aren't drawn.
+# What no code stands on: the program, the crates of tests, and what these share. Those of unit tests aren't drawn.
 TESTS = ("acceptance_", "unit_")
-ON_TOP = ("view_main", *TESTS)
+ON_TOP = ("view_main", "test_desks", *TESTS)
 # So many users of a crate are named.
 MOST = 12
 

@@ -1,14 +1,14 @@
 -- What a file that is laid out has, and which condition's fault is the file's.
-use Rattle.std.proofs.Common.{◌≡◌, ℕ, zero, suc, ◌+◌, ◌*◌, ◌^◌, ◌≤◌, ◌<◌, List, [], ◌∷◌, ◌++◌, length, Bool, true, false, refl, ◌∙◌, arith, Option, Some, None, get_or, rules}
+use Rattle.std.proofs.Common.{◌≡◌, ℕ, zero, suc, ◌+◌, ◌*◌, ◌^◌, ◌≤◌, ◌<◌, List, [], ◌∷◌, ◌++◌, length, Bool, true, false, refl, ◌∙◌, arith, Option, Some, None, get_or, rules, sym}
 use Rattle.std.specs.Prelude.{nat_le}
 use Rattle.std.proofs.Math.Nat.{mul-le-mul_left, mul-le-mul_right}
 use Rattle.std.proofs.lemmas.List.Elements.{All-get_or}
 use Rattle.std.proofs.lemmas.Bool.Decides.{nat_tests}
 use Rattle.view_base.specs.declared.fault.SurveyFault.{SurveyFault}
 use Rattle.view_base.specs.declared.fault.SurveyFault.TheVariants.{Header, Points}
-use Rattle.view_base.specs.declared.fault.HeaderFault.TheVariants.{Format, RecordLength, Offset}
-use Rattle.view_meaning.specs.Layout.{fault, IsLaid, first_fault, unless, header_faults, vlr_fault, evlr_fault, least_length}
-use Rattle.view_meaning.specs.Survey.{header_size, points_at, vlr_count, format_of, record_length, record_count, evlrs_at, evlr_count, record_at, points_end}
+use Rattle.view_base.specs.declared.fault.HeaderFault.TheVariants.{HeaderSize, Format, RecordLength, Offset}
+use Rattle.view_meaning.specs.Layout.{fault, IsLaid, first_fault, unless, header_faults, vlr_fault, evlr_fault, least_length, block_size}
+use Rattle.view_meaning.specs.Survey.{minor_of, header_size, points_at, vlr_count, format_of, record_length, record_count, evlrs_at, evlr_count, record_at, points_end}
 
 first_fault-append-some : (faults others : List (Option SurveyFault)) (f : SurveyFault) → first_fault faults ≡ Some f → first_fault (faults ++ others) ≡ Some f
 first_fault-append-some [] others f found = absurd (cc found)
@@ -70,18 +70,21 @@ laid b header vlrs small evlrs =
 
 -- the conditions that a file without a fault meets
 pub record IsSound (b : List ℕ) : Type 0 where
+  pub block : block_size (minor_of b) ≤ header_size b
   pub known : format_of b ≤ 10
   pub fitting : least_length (format_of b) ≤ record_length b
   pub after : header_size b ≤ points_at b
   pub points : points_end b ≤ length b
 
-none-each : (faults : List (Option SurveyFault)) (i : ℕ) → first_fault faults ≡ None → get_or faults i None ≡ None
+-- none of the conditions of a file without a fault has one
+pub none-each : (faults : List (Option SurveyFault)) (i : ℕ) → first_fault faults ≡ None → get_or faults i None ≡ None
 none-each [] i none = refl
 none-each (None ∷ faults) zero none = refl
 none-each (None ∷ faults) (suc i) none = none-each faults i none
 none-each (Some f ∷ faults) i none = absurd (cc none)
 
-met : (t : Bool) (f : SurveyFault) → unless t f ≡ None → t ≡ true
+-- a condition without a fault holds
+pub met : (t : Bool) (f : SurveyFault) → unless t f ≡ None → t ≡ true
 met true f none = refl
 met false f none = absurd (cc none)
 
@@ -96,11 +99,42 @@ laid-sound b none =
     ∷ evlr_fault b (evlrs_at b) (points_end b) (evlr_count b)
     ∷ [] in
     record {
+      block = at_least (block_size (minor_of b)) (header_size b) (Header (HeaderSize (header_size b))) (none-each all 4 none);
       known = at_least (format_of b) 10 (Header (Format (format_of b))) (none-each all 6 none);
       fitting = at_least (least_length (format_of b)) (record_length b) (Header (RecordLength (record_length b) (least_length (format_of b)))) (none-each all 7 none);
       after = at_least (header_size b) (points_at b) (Header (Offset (points_at b))) (none-each all 8 none);
       points = at_least (points_end b) (length b) (Points (points_end b) (length b)) (none-each all 10 none);
     }
+
+fault-whole : (b : List ℕ) → fault b ≡ None → first_fault (header_faults b ++ rest b) ≡ None
+unfolding fault rest
+fault-whole b none = none
+
+rest-vlrs : (b : List ℕ) → first_fault (rest b) ≡ None → vlr_fault b (header_size b) (points_at b) (vlr_count b) ≡ None
+unfolding rest
+rest-vlrs b none = none-each (rest b) 0 none
+
+rest-evlrs : (b : List ℕ) → first_fault (rest b) ≡ None → evlr_fault b (evlrs_at b) (points_end b) (evlr_count b) ≡ None
+unfolding rest
+rest-evlrs b none = none-each (rest b) 2 none
+
+none-front : (faults others : List (Option SurveyFault)) → first_fault (faults ++ others) ≡ None → first_fault faults ≡ None
+none-front [] others none = refl
+none-front (None ∷ faults) others none = none-front faults others none
+none-front (Some f ∷ faults) others none = absurd (cc none)
+
+-- the conditions of a file without a fault, by those on its header, on both kinds of records and on its points
+pub record HasNoFault (b : List ℕ) : Type 0 where
+  pub header : first_fault (header_faults b) ≡ None
+  pub vlrs : vlr_fault b (header_size b) (points_at b) (vlr_count b) ≡ None
+  pub evlrs : evlr_fault b (evlrs_at b) (points_end b) (evlr_count b) ≡ None
+
+pub laid-none : (b : List ℕ) → IsLaid b → HasNoFault b
+unfolding IsLaid
+laid-none b none =
+    let header : first_fault (header_faults b) ≡ None = (let n : first_fault (header_faults b ++ rest b) ≡ None = fault-whole b none in none-front (header_faults b) (rest b) n) in
+    let others : first_fault (rest b) ≡ None = sym (fault-rest b header) ∙ none in
+    record { header = header; vlrs = rest-vlrs b others; evlrs = rest-evlrs b others }
 
 -- the least record length of each format is 20 or more
 pub least_length-least : (format : ℕ) → format ≤ 10 → 20 ≤ least_length format

@@ -1,3 +1,4 @@
+pub mod Beside
 pub mod Kept
 pub mod Loading
 pub mod Refusal

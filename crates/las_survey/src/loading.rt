@@ -1,4 +1,4 @@
-ghost use Rattle.std.specs.Prelude.{◌≡◌, ℕ, ◌+◌, ◌^◌, ◌≤◌, ◌<◌, [], List, length, Some, IfOk, IfSome, IsErrOf};
+ghost use Rattle.std.specs.Prelude.{◌≡◌, ℕ, ◌+◌, ◌^◌, ◌≤◌, ◌<◌, [], List, length, min, Some, IfOk, IfSome, IsErrOf};
 ghost use Rattle.las_survey.specs.Loading.{TookAll};
 ghost use Rattle.view_ends.specs.Ends.{Rose};
 ghost use Rattle.view_meaning.specs.Layout as layout;
@@ -109,9 +109,16 @@ fn room_for(alloc: Global, expected: u64) -> Bytes
     ensures { result.items ≡ [] }
 {
     let mut bytes = Bytes::new(alloc);
-    match bytes.reserve(expected.min(LIMIT as u64) as usize) {
+    match bytes.reserve(room_of(expected)) {
         Ok(()) | Err(OutOfMemory) => bytes,
     }
+}
+
+/// For how many bytes room is made: for all that are expected, and no more than a survey may have.
+fn room_of(expected: u64) -> usize
+    ensures { result ≡ min expected LIMIT }
+{
+    expected.min(LIMIT as u64) as usize
 }
 
 /// All bytes of a source, where they are few enough.

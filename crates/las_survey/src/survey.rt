@@ -1,11 +1,14 @@
-ghost use Rattle.std.specs.Prelude.{◌≡◌, ◌+◌, ◌*◌, ◌^◌, ◌<◌, ◌≤◌, length, take, drop, Some, IfOk, IsErrOf};
+ghost use Rattle.std.specs.Prelude.{◌≡◌, ◌+◌, ◌*◌, ◌^◌, ◌<◌, ◌≤◌, length, take, drop, slice_set, Some, IfOk, IsErrOf};
+ghost use Rattle.las_survey.specs.Beside.{class_at, SameFields};
 ghost use Rattle.las_vlr.specs.Places.{vlr_places, evlr_places};
 ghost use Rattle.view_meaning.specs.Layout as layout;
 ghost use Rattle.view_meaning.specs.Layout.{IsLaid, least_length};
-ghost use Rattle.view_meaning.specs.Survey.{header_size, points_at, vlr_count, evlrs_at, evlr_count, format_of, record_at, record_count, record_length, points_end};
+ghost use Rattle.view_meaning.specs.Survey.{header_size, points_at, vlr_count, evlrs_at, evlr_count};
+ghost use Rattle.view_meaning.specs.Survey.{format_of, record_at, record_count, record_length, points_end};
 
 use crate::loading::LoadFault;
 use las_header::{Header, read_header};
+use las_points::class_place;
 use las_vlr::{VlrList, walk_evlrs, walk_vlrs};
 use std::alloc::Global;
 use std::marker::Model;
@@ -105,6 +108,19 @@ impl Survey {
         &self.bytes.as_slice()[at..at + size]
     }
 
+    /// Sets the byte of record `i` that has its class. No other byte changes, and it takes no memory.
+    pub fn set_class_byte(&mut self, i: u32, byte: u8)
+        requires { i < record_count self.old }
+        ensures bytes { self.new ≡ slice_set self.old (class_at self.old i) byte }
+        ensures fields { SameFields self.old self.new }
+        ensures laid { IsLaid self.new }
+    {
+        let header = &self.header;
+        let first = header.points_at as usize + i as usize * usize::from(header.length);
+        let at = first + class_place(header.format);
+        set_byte(&mut self.bytes, at, byte);
+    }
+
     /// The places of the variable length records, in their order.
     pub fn vlrs(&self) -> &VlrList
         ensures { result.now.items ≡ vlr_places self.now (header_size self.now) (vlr_count self.now) }
@@ -118,6 +134,14 @@ impl Survey {
     {
         &self.evlrs
     }
+}
+
+/// Sets the byte at a place.
+fn set_byte(bytes: &mut Bytes, at: usize, byte: u8)
+    requires { at < length bytes.old.items }
+    ensures { bytes.new.items ≡ slice_set bytes.old.items at byte }
+{
+    bytes.tail_mut(at)[0] = byte;
 }
 
 /// Where the points end: the offset to point data, and the records times their length.

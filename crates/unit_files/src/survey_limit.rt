@@ -1,6 +1,8 @@
 ghost use Rattle.std.specs.Prelude.{◌≤◌, None};
 
-use crate::{HeaderFault, LoadFault, SurveyFault, load};
+use las_survey::{HeaderFault, LoadFault, SurveyFault, load};
+use std::alloc::Global;
+use std::process::Abort;
 use view_ends::{Failed, Source};
 
 /// So many zeros, which are not told beforehand.
@@ -26,14 +28,17 @@ impl Source for Zeros {
     }
 }
 
+/// So many zeros are answered so, and each of them is taken.
+fn are_answered(rt: &impl Abort, alloc: Global, all: u64, want: LoadFault) {
+    let mut zeros = Zeros { all, taken: 0 };
+    assert_eq!(rt; load(alloc, &mut zeros).err(), Some(want));
+    assert_eq!(rt; zeros.taken, all);
+}
+
 #[test]
 fn a_survey_has_at_most_two_to_the_30_bytes(rt: HostRuntime) {
     let limit = 1 << 30;
-    let signature = Some(LoadFault::Survey(SurveyFault::Header(HeaderFault::Signature)));
-    let too_long = Some(LoadFault::TooLong);
-    for (all, want) in [(limit, signature), (limit + 1, too_long)] {
-        let mut zeros = Zeros { all, taken: 0 };
-        assert_eq!(rt; load(rt.alloc(), &mut zeros).err(), want);
-        assert_eq!(rt; zeros.taken, all);
-    }
+    let signature = LoadFault::Survey(SurveyFault::Header(HeaderFault::Signature));
+    are_answered(&rt, rt.alloc(), limit, signature);
+    are_answered(&rt, rt.alloc(), limit + 1, LoadFault::TooLong);
 }

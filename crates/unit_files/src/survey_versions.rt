@@ -1,8 +1,9 @@
-use crate::test_files::{
-    EMPTY, EMPTY_1_2, EMPTY_1_3, Fields, append_evlr, append_header, append_records, append_vlr,
+use crate::survey_faults::{found, found_in_header, is_loaded, is_refused};
+use crate::survey_files::{
+    EMPTY, EMPTY_1_2, EMPTY_1_3, Fields, RECORDS, append_all, append_evlr, append_header,
+    append_vlr,
 };
-use crate::tests::{found, found_in_header, is_loaded, is_refused};
-use crate::{Header, HeaderFault, LoadFault, SurveyFault, VlrPlace};
+use las_survey::{Header, HeaderFault, LoadFault, SurveyFault, VlrPlace};
 use std::alloc::Global;
 use std::process::Abort;
 use std::test::Fail;
@@ -23,7 +24,7 @@ const PLAIN_1_2: Header = Header {
 
 /// Of LAS 1.2: two variable length records at 227 and 289, a gap of 5 bytes at 347, and two point
 /// records up to 392.
-fn fill_1_2(bytes: &mut Bytes) -> Result<(), OutOfMemory> {
+pub fn fill_1_2(bytes: &mut Bytes) -> Result<(), OutOfMemory> {
     let fields = Fields {
         points_at: 352,
         vlrs: 2,
@@ -33,8 +34,7 @@ fn fill_1_2(bytes: &mut Bytes) -> Result<(), OutOfMemory> {
     append_header(bytes, &fields)?;
     append_vlr(bytes, 8)?;
     append_vlr(bytes, 4)?;
-    bytes.append(&[0; 5])?;
-    append_records(bytes)
+    append_all(bytes, &[&[0; 5], &RECORDS])
 }
 
 /// Of LAS 1.3: two point records up to 275, and 7 bytes after them.
@@ -44,13 +44,12 @@ fn fill_1_3(bytes: &mut Bytes) -> Result<(), OutOfMemory> {
         ..EMPTY_1_3
     };
     append_header(bytes, &fields)?;
-    append_records(bytes)?;
-    bytes.append(&[0x44; 7])
+    append_all(bytes, &[&RECORDS, &[0x44; 7]])
 }
 
 /// Of LAS 1.4 in format 7: a variable length record at 375, three point records of 40 bytes at 437,
 /// an extended record at 557, and 3 bytes after it, up to 624.
-fn fill_1_4(bytes: &mut Bytes) -> Result<(), OutOfMemory> {
+pub fn fill_1_4(bytes: &mut Bytes) -> Result<(), OutOfMemory> {
     let fields = Fields {
         points_at: 437,
         vlrs: 1,
@@ -96,15 +95,20 @@ fn fault_1_4(have: u64) -> Option<LoadFault> {
     }
 }
 
-#[test]
-fn bytes_at_247_of_las_1_2_are_no_count(rt: HostRuntime) -> Result<(), Fail> {
-    let mut bytes = Bytes::new(rt.alloc());
+/// Of LAS 1.2: two point records straight after the header.
+fn fill_plain(bytes: &mut Bytes) -> Result<(), OutOfMemory> {
     let fields = Fields {
         count: 2,
         ..EMPTY_1_2
     };
-    append_header(&mut bytes, &fields)?;
-    append_records(&mut bytes)?;
+    append_header(bytes, &fields)?;
+    bytes.append(&RECORDS)
+}
+
+#[test]
+fn bytes_at_247_of_las_1_2_are_no_count(rt: HostRuntime) -> Result<(), Fail> {
+    let mut bytes = Bytes::new(rt.alloc());
+    fill_plain(&mut bytes)?;
     is_loaded(&rt, rt.alloc(), bytes.as_slice(), &PLAIN_1_2, &[], &[]);
     Ok(())
 }

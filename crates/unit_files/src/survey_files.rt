@@ -50,11 +50,18 @@ pub const EMPTY_1_2: Fields = Fields {
     ..EMPTY
 };
 
+/// Appends pieces one after the other.
+pub fn append_all(bytes: &mut Bytes, pieces: &[&[u8]]) -> Result<(), OutOfMemory> {
+    for piece in pieces {
+        bytes.append(piece)?;
+    }
+    Ok(())
+}
+
 /// Appends a header: 375 bytes for minor version 4, 235 for 3, and 227 for all others. Its bytes
 /// that are not read are 0.
 pub fn append_header(bytes: &mut Bytes, fields: &Fields) -> Result<(), OutOfMemory> {
     append_start(bytes, fields)?;
-    append_counts(bytes, fields)?;
     match fields.minor {
         4 => append_back(bytes, fields),
         3 => bytes.append(&[0; 124]),
@@ -62,54 +69,51 @@ pub fn append_header(bytes: &mut Bytes, fields: &Fields) -> Result<(), OutOfMemo
     }
 }
 
-/// Appends the first 96 bytes of a header.
+/// Appends the first 111 bytes of a header, which each version has.
 fn append_start(bytes: &mut Bytes, fields: &Fields) -> Result<(), OutOfMemory> {
-    bytes.append(&fields.signature)?;
-    bytes.append(&[0; 20])?;
-    bytes.append(&[fields.major, fields.minor])?;
-    bytes.append(&[0; 68])?;
-    bytes.append(&fields.size.to_le_bytes())
-}
-
-/// Appends the 15 bytes of a header after those, the last that each version has.
-fn append_counts(bytes: &mut Bytes, fields: &Fields) -> Result<(), OutOfMemory> {
-    bytes.append(&fields.points_at.to_le_bytes())?;
-    bytes.append(&fields.vlrs.to_le_bytes())?;
-    bytes.append(&[fields.format])?;
-    bytes.append(&fields.length.to_le_bytes())?;
-    bytes.append(&fields.count.to_le_bytes())
+    append_all(
+        bytes,
+        &[
+            &fields.signature,
+            &[0; 20],
+            &[fields.major, fields.minor],
+            &[0; 68],
+            &fields.size.to_le_bytes(),
+            &fields.points_at.to_le_bytes(),
+            &fields.vlrs.to_le_bytes(),
+            &[fields.format],
+            &fields.length.to_le_bytes(),
+            &fields.count.to_le_bytes(),
+        ],
+    )
 }
 
 /// Appends the bytes of a header of LAS 1.4 after its first 111.
 fn append_back(bytes: &mut Bytes, fields: &Fields) -> Result<(), OutOfMemory> {
-    bytes.append(&[0; 124])?;
-    bytes.append(&fields.evlrs_at.to_le_bytes())?;
-    bytes.append(&fields.evlrs.to_le_bytes())?;
-    bytes.append(&fields.records.to_le_bytes())?;
-    bytes.append(&[0; 120])
+    append_all(
+        bytes,
+        &[
+            &[0; 124],
+            &fields.evlrs_at.to_le_bytes(),
+            &fields.evlrs.to_le_bytes(),
+            &fields.records.to_le_bytes(),
+            &[0; 120],
+        ],
+    )
 }
 
-/// Appends a record of format 0, whose Y is 0.
-fn append_record(bytes: &mut Bytes, x: i32, z: i32, class: u8) -> Result<(), OutOfMemory> {
-    bytes.append(&x.to_le_bytes())?;
-    bytes.append(&[0; 4])?;
-    bytes.append(&z.to_le_bytes())?;
-    bytes.append(&[0, 0, 0, class, 0, 0, 0, 0])
-}
-
-/// Appends two records of format 0. After a header of LAS 1.2 the bytes at 247 are X and Y of the
-/// second, which would be a number of records of 1, and after one of LAS 1.3 those at 243 are Z of
-/// the first, which would be a number of extended records of 5.
-pub fn append_records(bytes: &mut Bytes) -> Result<(), OutOfMemory> {
-    append_record(bytes, 0, 5, 2)?;
-    append_record(bytes, 1, 9, 6)
-}
+/// Two records of format 0: at 0, 0, 5 of class 2, and at 1, 0, 9 of class 6. After a header of LAS
+/// 1.2 the bytes at 247 are X and Y of the second, which would be a number of records of 1, and
+/// after one of LAS 1.3 those at 243 are Z of the first, which would be a number of extended
+/// records of 5.
+pub const RECORDS: [u8; 40] = [
+    0, 0, 0, 0, 0, 0, 0, 0, 5, 0, 0, 0, 0, 0, 0, 2, 0, 0, 0, 0, 1, 0, 0, 0, 0, 0, 0, 0, 9, 0, 0, 0,
+    0, 0, 0, 6, 0, 0, 0, 0,
+];
 
 /// Appends a variable length record with so many bytes after its header.
 pub fn append_vlr(bytes: &mut Bytes, length: u8) -> Result<(), OutOfMemory> {
-    bytes.append(&[0; 20])?;
-    bytes.append(&[length, 0])?;
-    bytes.append(&[0; 32])?;
+    append_all(bytes, &[&[0; 20], &[length, 0], &[0; 32]])?;
     for _ in 0..length {
         bytes.push(0x11)?;
     }
@@ -118,8 +122,8 @@ pub fn append_vlr(bytes: &mut Bytes, length: u8) -> Result<(), OutOfMemory> {
 
 /// Appends an extended variable length record with 4 bytes after its header.
 pub fn append_evlr(bytes: &mut Bytes) -> Result<(), OutOfMemory> {
-    bytes.append(&[0; 20])?;
-    bytes.append(&4u64.to_le_bytes())?;
-    bytes.append(&[0; 32])?;
-    bytes.append(&[0x33; 4])
+    append_all(
+        bytes,
+        &[&[0; 20], &4u64.to_le_bytes(), &[0; 32], &[0x33; 4]],
+    )
 }

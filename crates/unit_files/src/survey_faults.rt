@@ -1,5 +1,5 @@
-use crate::test_files::{EMPTY, EMPTY_1_2, EMPTY_1_3, Fields, append_header, append_vlr};
-use crate::{Header, HeaderFault, LoadFault, Survey, SurveyFault, VlrPlace, load};
+use crate::survey_files::{EMPTY, EMPTY_1_2, EMPTY_1_3, Fields, append_header};
+use las_survey::{Header, HeaderFault, LoadFault, Survey, SurveyFault, VlrPlace, load};
 use std::alloc::Global;
 use std::process::Abort;
 use std::test::Fail;
@@ -7,7 +7,7 @@ use view_base::{Bytes, OutOfMemory};
 use view_ends::StillSource;
 
 /// The survey of a file's bytes.
-fn loaded(alloc: Global, file: &[u8]) -> Result<Survey, LoadFault> {
+pub fn loaded(alloc: Global, file: &[u8]) -> Result<Survey, LoadFault> {
     let mut bytes = Bytes::new(alloc);
     bytes.append(file)?;
     load(alloc, &mut StillSource::new(bytes))
@@ -143,38 +143,39 @@ fn a_version_is_told_after_the_signature_and_before_the_bytes_of_its_block(rt: H
     is_refused_with_byte(&rt, rt.alloc(), &EMPTY_1_3, (94, 234), small);
 }
 
+/// The first bytes of a file of LAS 1.4, so many, are refused so.
+fn is_part_refused(
+    rt: &impl Abort,
+    alloc: Global,
+    signature: [u8; 4],
+    (length, fault): (usize, HeaderFault),
+) {
+    assert_eq!(rt;
+        part_refusal(alloc, signature, length),
+        found_in_header(fault)
+    );
+}
+
+/// Why the first bytes of a file of LAS 1.4, so many, are refused.
+fn part_refusal(alloc: Global, signature: [u8; 4], length: usize) -> Option<LoadFault> {
+    match file(alloc, &Fields { signature, ..EMPTY }, &[]) {
+        Ok(bytes) => loaded(alloc, bytes.as_slice().get(..length).unwrap_or(&[])).err(),
+        Err(OutOfMemory) => Some(LoadFault::Memory),
+    }
+}
+
 #[test]
-fn a_short_file_of_las_1_4_is_told_after_its_signature(rt: HostRuntime) -> Result<(), Fail> {
-    let signature = *b"LASf";
-    let signed = file(rt.alloc(), &EMPTY, &[])?;
-    let other = file(rt.alloc(), &Fields { signature, ..EMPTY }, &[])?;
+fn a_short_file_of_las_1_4_is_told_after_its_signature(rt: HostRuntime) {
     for (length, fault) in [
         (226, HeaderFault::TooShort { have: 226 }),
         (227, HeaderFault::Signature),
         (374, HeaderFault::Signature),
     ] {
         let have = length as u64;
-        let short = found_in_header(HeaderFault::TooShort { have });
-        is_part_refused(&rt, rt.alloc(), &signed, length, short);
-        is_part_refused(&rt, rt.alloc(), &other, length, found_in_header(fault));
+        let short = HeaderFault::TooShort { have };
+        is_part_refused(&rt, rt.alloc(), *b"LASF", (length, short));
+        is_part_refused(&rt, rt.alloc(), *b"LASf", (length, fault));
     }
-    Ok(())
-}
-
-/// The first bytes of a file, so many, are refused so.
-fn is_part_refused(
-    rt: &impl Abort,
-    alloc: Global,
-    file: &Bytes,
-    length: usize,
-    want: Option<LoadFault>,
-) {
-    is_refused(
-        rt,
-        alloc,
-        file.as_slice().get(..length).unwrap_or(&[]),
-        want,
-    );
 }
 
 #[test]
@@ -267,43 +268,59 @@ fn a_file_is_accepted_up_to_each_bound(rt: HostRuntime) {
     }
 }
 
+/// A file of a header alone of this format, with so many bytes a record, is refused so.
+fn is_refused_with_length(
+    rt: &impl Abort,
+    alloc: Global,
+    (format, length): (u8, u16),
+    want: Option<LoadFault>,
+) {
+    let fields = Fields {
+        format,
+        length,
+        ..EMPTY
+    };
+    assert_eq!(rt; refusal(alloc, &fields, &[]), want);
+}
+
+/// The fault of a record length.
+fn too_short(have: u16, least: u16) -> Option<LoadFault> {
+    found_in_header(HeaderFault::RecordLength { have, least })
+}
+
 #[test]
 fn each_format_has_its_least_record_length(rt: HostRuntime) {
     let least_lengths = [20, 28, 26, 34, 57, 63, 30, 36, 38, 59, 67];
     for (format, least) in (0..11).zip(least_lengths) {
-        let fields = Fields {
-            format,
-            length: least,
-            ..EMPTY
-        };
-        assert_eq!(rt; refusal(rt.alloc(), &fields, &[]), None);
-        let have = least - 1;
-        let fields = Fields {
-            format,
-            length: have,
-            ..EMPTY
-        };
-        let short = found_in_header(HeaderFault::RecordLength { have, least });
-        assert_eq!(rt; refusal(rt.alloc(), &fields, &[]), short);
+        is_refused_with_length(&rt, rt.alloc(), (format, least), None);
+        let short = too_short(least - 1, least);
+        is_refused_with_length(&rt, rt.alloc(), (format, least - 1), short);
     }
 }
 
+/// A record of 55 bytes with one of them after its header, and 5 bytes, between a header and points
+/// that begin at a place.
+fn is_refused_with_gap(
+    rt: &impl Abort,
+    alloc: Global,
+    (points_at, want): (u32, Option<LoadFault>),
+) {
+    let fields = Fields {
+        points_at,
+        vlrs: 1,
+        ..EMPTY
+    };
+    let mut rest = [0; 60];
+    rest[20] = 1;
+    assert_eq!(rt; refusal(alloc, &fields, &rest), want);
+}
+
 #[test]
-fn a_record_before_the_points_leaves_a_gap_or_is_refused(rt: HostRuntime) -> Result<(), Fail> {
-    // A record with one byte after its 54, and 5 bytes.
-    let mut rest = Bytes::new(rt.alloc());
-    append_vlr(&mut rest, 1)?;
-    rest.append(&[0; 5])?;
+fn a_record_before_the_points_leaves_a_gap_or_is_refused(rt: HostRuntime) {
     let cut = found(SurveyFault::Vlr { k: 0, at: 375 });
-    for (points_at, want) in [(429, cut), (430, None), (435, None)] {
-        let fields = Fields {
-            points_at,
-            vlrs: 1,
-            ..EMPTY
-        };
-        assert_eq!(rt; refusal(rt.alloc(), &fields, rest.as_slice()), want);
+    for case in [(429, cut), (430, None), (435, None)] {
+        is_refused_with_gap(&rt, rt.alloc(), case);
     }
-    Ok(())
 }
 
 /// A fault is printed so.
