@@ -1,0 +1,8 @@
+//! Tests of the crates of classes, edits and saved files, by their public calls alone. Expected values
+//! come from arithmetic by hand.
+#![tactic(auto)]
+
+#[cfg(test)]
+mod bits;
+#[cfg(test)]
+mod edits;
