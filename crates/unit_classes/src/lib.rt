@@ -5,4 +5,14 @@
 #[cfg(test)]
 mod bits;
 #[cfg(test)]
+mod choosers;
+#[cfg(test)]
 mod edits;
+#[cfg(test)]
+mod made;
+#[cfg(test)]
+mod pages;
+#[cfg(test)]
+mod saving;
+#[cfg(test)]
+mod walks;
