@@ -126,7 +126,7 @@ impl Draft {
     }
 
     /// Gives record `i` the class that is picked for a point and its class, and answers how many
-    /// classes change: 0 or 1. A refusal is want of memory.
+    /// classes change: 0 or 1. A refusal is want of memory, and leaves the draft as it was.
     #[inline]
     pub fn change<T: Chooser>(
         &mut self,
@@ -136,8 +136,9 @@ impl Draft {
         chooser: &T,
     ) -> Result<u64, OutOfMemory>
         requires { i < length self.old }
-        ensures { IfOk result (λ changed.
+        ensures picked { IfOk result (λ changed.
             IsPicked (T.picks chooser.now) p i self.old self.new changed) }
+        ensures refused { OnErr result (self.new ≡ self.old) }
     {
         self.pages[i as usize / PAGE].change(alloc, i as usize % PAGE, p, chooser)
     }

@@ -22,13 +22,13 @@ loop-place-preserved g c =
     let numbers = c.args.numbers.now in
     let place = c.loop-place.place in
     record {
-      size = ap length c.in_ok-changed.ensures.made ∙ length-set c.loop-place.draft (get_or numbers place 0) _ ∙ c.loop-place.invariant.size;
+      size = ap length c.in_ok-changed.ensures.picked.made ∙ length-set c.loop-place.draft (get_or numbers place 0) _ ∙ c.loop-place.invariant.size;
       further = λ b old alike under.
           let within : get_or numbers place 0 < length c.args.draft.now = c.requires.numbers place 0 c.loop-place-test.true in
           further_more b pick old c.args.draft.now c.loop-place.draft c.change.new.self numbers place (place + 1) (get_or numbers place 0) c.loop-place.changed
           c.in_ok-changed.field-0 c.args.p refl c.loop-place-test.true refl (omega (arith, within, under.size)) c.requires.settled
-          (alike place 0 c.loop-place-test.true) c.in_ok-changed.ensures (c.loop-place.invariant.further b old alike under);
-      small = let most : c.in_ok-changed.field-0 ≤ 1 = step_most _ _ c.in_ok-changed.ensures.count in omega (arith, most, c.loop-place.invariant.small);
+          (alike place 0 c.loop-place-test.true) c.in_ok-changed.ensures.picked (c.loop-place.invariant.further b old alike under);
+      small = let most : c.in_ok-changed.field-0 ≤ 1 = step_most _ _ c.in_ok-changed.ensures.picked.count in omega (arith, most, c.loop-place.invariant.small);
     }
 
 pub returns : goal.returns

@@ -23,13 +23,13 @@ loop-place-preserved g c =
     let number : get_or numbers place 0 ≡ c.args.first + place = get_or-range_with_len c.args.first c.args.count place 0 c.loop-place-test.true in
     let there : place < length numbers = omega (arith, size, c.loop-place-test.true) in
     record {
-      size = ap length c.in_ok-changed.ensures.made ∙ length-set c.loop-place.draft (c.args.first + place) _ ∙ c.loop-place.invariant.size;
+      size = ap length c.in_ok-changed.ensures.picked.made ∙ length-set c.loop-place.draft (c.args.first + place) _ ∙ c.loop-place.invariant.size;
       further = λ b old alike under.
           further_more b pick old c.args.draft.now c.loop-place.draft c.change.new.self numbers place (place + 1) (c.args.first + place) c.loop-place.changed
           c.in_ok-changed.field-0 c.args.p refl there (sym number) (omega (arith, under.size, c.requires.within, c.loop-place-test.true)) c.requires.settled
           (subst (λ (i : ℕ). (class : ℕ) → pick c.args.p class ≡ pick (point_of b i) class) number (alike place 0 there))
-          c.in_ok-changed.ensures (c.loop-place.invariant.further b old alike under);
-      small = let most : c.in_ok-changed.field-0 ≤ 1 = step_most _ _ c.in_ok-changed.ensures.count in omega (arith, most, c.loop-place.invariant.small);
+          c.in_ok-changed.ensures.picked (c.loop-place.invariant.further b old alike under);
+      small = let most : c.in_ok-changed.field-0 ≤ 1 = step_most _ _ c.in_ok-changed.ensures.picked.count in omega (arith, most, c.loop-place.invariant.small);
     }
 
 pub returns : goal.returns
