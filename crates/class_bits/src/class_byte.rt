@@ -35,18 +35,3 @@ pub fn with_class(format: u8, byte: u8, class: u8) -> u8
         class
     }
 }
-
-#[cfg(test)]
-mod tests {
-    use super::*;
-
-    #[test]
-    fn flags_stay_where_a_class_changes(rt: HostRuntime) {
-        assert_eq!(rt; top_class(5), 31);
-        assert_eq!(rt; class_of(0, 0xE2), 2);
-        assert_eq!(rt; with_class(0, 0xE2, 6), 0xE6);
-        assert_eq!(rt; top_class(6), 255);
-        assert_eq!(rt; class_of(6, 0xC8), 200);
-        assert_eq!(rt; with_class(10, 0xC8, 7), 7);
-    }
-}

@@ -30,21 +30,3 @@ pub fn passes(filter: &Filter, class: u8, withheld: bool) -> bool
 {
     filter.classes.has(class) && !(filter.hide_withheld && withheld)
 }
-
-#[cfg(test)]
-mod tests {
-    use super::*;
-
-    #[test]
-    fn a_hidden_flag_or_another_class_does_not_pass(rt: HostRuntime) {
-        let mut classes = ClassSet::empty();
-        classes.add(6);
-        let filter = Filter {
-            classes,
-            hide_withheld: true,
-        };
-        assert!(rt; passes(&filter, 6, false));
-        assert!(rt; !passes(&filter, 6, true));
-        assert!(rt; !passes(&filter, 2, false));
-    }
-}

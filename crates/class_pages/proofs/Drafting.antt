@@ -1,11 +1,15 @@
 -- Pages of which one class on one page changes.
-use Rattle.std.proofs.Common.{◌≡◌, ◌≢◌, ℕ, suc, ◌+◌, ◌-◌, ◌*◌, ◌/◌, ◌%◌, ◌<◌, min, List, [], ◌∷◌, ◌++◌, length, get_or, set, take, drop, inl, inr, refl, sym, ◌∙◌, ap, subst, arith, All, Result, Ok, Err, OnOk, OnErr}
+use Rattle.std.proofs.Common.{◌≡◌, ◌≢◌, ℕ, suc, ◌+◌, ◌-◌, ◌*◌, ◌/◌, ◌%◌, ◌<◌, min, List, [], ◌∷◌, ◌++◌, length, get_or, set, take, drop, inl, inr, refl, sym, ◌∙◌, ap, subst, arith, All, Result, Ok, Err, OnErr, ◌==◌, if◌then◌else◌}
 use Rattle.std.proofs.lemmas.Bool.{cases_eq}
 use Rattle.std.proofs.lemmas.List.{ext_get_or, length-set, get_or-set_same, get_or-set_other, set-get_or, take_all}
 use Rattle.std.proofs.lemmas.List.Elements.{All-set}
 use Rattle.std.proofs.Math.Seq.{take-add}
+use Rattle.std.specs.Prelude.{IfOk}
 use Rattle.std.specs.List.{flat_map}
+use Rattle.std.proofs.lemmas.Bool.Decides.{nat_tests}
+use Rattle.view_base.specs.declared.place.Point.{Point}
 use Rattle.view_ends.proofs.Taken.{drop-add}
+use Rattle.class_pages.specs.Choosing.{Pick, IsPicked}
 use Rattle.class_pages.specs.Pages.{page_of, IsPaged}
 use Rattle.class_pages.proofs.Pages.{get_or-page_of, length-page_of}
 
@@ -113,7 +117,36 @@ pub set_same : {P : Type 0} (pages : List P) (k : ℕ) (old new : P) → old ≡
 set_same pages k old new is same = ap (set pages k) (same ∙ is) ∙ set-get_or pages k old
 
 -- whether the class on a page was set or not
-pub set_paged_either : {P A E : Type 0} (f : P → List ℕ) → (n i v : ℕ) (pages : List P) (old new : P) (r : Result A E) → IsPaged f n pages → i < n → v < 256 → old ≡ get_or pages (i / 4096) old
-    → OnOk r (f new ≡ set (f old) (i % 4096) v) → OnErr r (new ≡ old) → IsPaged f n (set pages (i / 4096) new)
-set_paged_either f n i v pages old new (Ok x) h lt small is made stays = set_paged f n i v pages old new h lt small is made
-set_paged_either f n i v pages old new (Err e) h lt small is made stays = subst (IsPaged f n) (sym (set_same pages (i / 4096) old new is stays)) h
+pub set_paged_either : {P E : Type 0} (f : P → List ℕ) → (n i : ℕ) (pages : List P) (old new : P) (pick : Pick) (p : Point) (r : Result ℕ E) → IsPaged f n pages → i < n → pick p (get_or (f old) (i % 4096) 0) < 256
+    → old ≡ get_or pages (i / 4096) old → IfOk r (IsPicked pick p (i % 4096) (f old) (f new)) → OnErr r (new ≡ old) → IsPaged f n (set pages (i / 4096) new)
+set_paged_either f n i pages old new pick p (Ok x) h lt small is picked stays = set_paged f n i (pick p (get_or (f old) (i % 4096) 0)) pages old new h lt small is picked.made
+set_paged_either f n i pages old new pick p (Err e) h lt small is picked stays = subst (IsPaged f n) (sym (set_same pages (i / 4096) old new is stays)) h
+
+-- a class picked on a page is picked in the list
+pub picked_flat : {P : Type 0} (f : P → List ℕ) → (n i : ℕ) (pages : List P) (old new : P) (pick : Pick) (p : Point) (differ : ℕ) → IsPaged f n pages → i < n → old ≡ get_or pages (i / 4096) old
+    → IsPicked pick p (i % 4096) (f old) (f new) differ → IsPicked pick p i (flat_map f pages) (flat_map f (set pages (i / 4096) new)) differ
+picked_flat f n i pages old new pick p differ h lt is picked =
+    let there : get_or (f old) (i % 4096) 0 ≡ get_or (flat_map f pages) i 0 = class_there f n i pages old h lt is in
+    record {
+      made = set_flat f n i (pick p (get_or (f old) (i % 4096) 0)) pages old new h lt is picked.made ∙ ap (λ (class : ℕ). set (flat_map f pages) i (pick p class)) there;
+      count = subst (λ (class : ℕ). differ ≡ (if pick p class == class then 0 else 1)) there picked.count;
+    }
+
+-- a class that stays leaves its list as it is
+pub picked_left : (pick : Pick) (p : Point) (place : ℕ) (old new : List ℕ) (differ : ℕ) → IsPicked pick p place old new differ → differ ≡ 0 → new ≡ old
+picked_left pick p place old new differ picked none =
+    let same : pick p (get_or old place 0) ≡ get_or old place 0 = stays (pick p (get_or old place 0)) (get_or old place 0) differ none picked.count in
+    picked.made ∙ ap (set old place) same ∙ set-get_or old place 0
+  where
+    stays : (v w n : ℕ) → n ≡ 0 → n ≡ (if v == w then 0 else 1) → v ≡ w
+    stays v w n none is = grind (arith, nat_tests)
+
+-- where the class picked is the one there, nothing changes
+pub picked_same : (pick : Pick) (p : Point) (place : ℕ) (old : List ℕ) → pick p (get_or old place 0) ≡ get_or old place 0 → IsPicked pick p place old old 0
+picked_same pick p place old same = record {
+  made = sym (ap (set old place) same ∙ set-get_or old place 0);
+  count = none 0 (pick p (get_or old place 0)) (get_or old place 0) refl same;
+}
+  where
+    none : (n v w : ℕ) → n ≡ 0 → v ≡ w → n ≡ (if v == w then 0 else 1)
+    none n v w zero is = grind (arith, nat_tests)

@@ -7,7 +7,8 @@ use Rattle.std.proofs.lemmas.List.FromFn.{get_or-map-range_with_len, length-map-
 use Rattle.std.specs.List.{range_with_len}
 use Rattle.view_meaning.specs.Survey.{record_count, point_of}
 use Rattle.view_meaning.specs.Classes.{Edit, in_box, has, class_after, class_at, classes, top_class}
-use Rattle.class_pages.specs.AfterEdit.{after_edit}
+use Rattle.class_pages.specs.Choosing.{chosen}
+use Rattle.class_pages.specs.Edited.{after_edit}
 use Rattle.class_pages.specs.Fitting.{EachFits}
 use Rattle.class_pages.specs.Pages.{page_of}
 use Rattle.class_pages.proofs.Pages.{get_or-page_of}
@@ -55,7 +56,7 @@ one_of false to class top new old = old
 
 -- an edit gives no class that the format has no room for
 pub after_edit-fits : (b cs : List ℕ) (e : Edit) (format : ℕ) → e.to ≤ top_class format → EachFits format cs → EachFits format (after_edit b cs e)
-unfolding after_edit
+unfolding chosen
 after_edit-fits b cs e format room fits = λ k d lt.
     let each = λ (i : ℕ). class_after (point_of b i) (get_or cs i 0) e in
     let within : k < length cs = let size : length (map each (range_with_len 0 (length cs))) ≡ length cs = length-map-range_with_len each 0 (length cs) in omega (arith, lt, size) in

@@ -11,7 +11,8 @@ use Rattle.view_meaning.specs.Survey.{record_count, record_length, record_at, fo
 use Rattle.view_meaning.specs.Classes.{Edit, class_of, class_after, class_at, classes, changed}
 use Rattle.view_meaning.proofs.Nearest.{range_more}
 use Rattle.view_base.specs.declared.place.Point.{Point}
-use Rattle.class_pages.specs.AfterEdit.{after_edit, IsSame}
+use Rattle.class_pages.specs.Choosing.{Pick, chosen, IsSame}
+use Rattle.class_pages.specs.Edited.{after_edit}
 
 -- the first i items are those of f, the others are as they were
 pub record IsMadeBelow (i : ℕ) (f : ℕ → ℕ) (old new : List ℕ) : Type 0 where
@@ -91,7 +92,7 @@ classes_run b old cs first n size within h =
 
 -- the classes after an edit are those after one more edit of the list
 pub after_edit-classes : (b : List ℕ) (edits : List Edit) (e : Edit) → after_edit b (classes b edits) e ≡ classes b (edits ++ e ∷ [])
-unfolding after_edit classes class_at
+unfolding chosen classes class_at
 after_edit-classes b edits e =
     let n = record_count b in
     let size : length (map (class_at b edits) (range_with_len 0 n)) ≡ n = length-map-range_with_len (class_at b edits) 0 n in
@@ -137,10 +138,10 @@ counted_same n f old same = sym (counts_same 0 n (λ k. not (get_or old k 0 == f
     none a zero = refl
     none a (suc n) = none (a + 1) n
 
--- one more class that an edit does not change
-pub same_more : (b cs : List ℕ) (e : Edit) (first i j v : ℕ) (p : Point) → j ≡ suc i → p ≡ point_of b (first + i) → v ≡ class_after p (get_or cs i 0) e → v ≡ get_or cs i 0 → IsSame b first e i cs → IsSame b first e j cs
-same_more b cs e first i j v p next is after stays h = λ k lt. elim (cases_lt k i) [
+-- one more class that is picked for itself
+pub same_more : (b cs : List ℕ) (pick : Pick) (first i j v : ℕ) (p : Point) → j ≡ suc i → p ≡ point_of b (first + i) → v ≡ pick p (get_or cs i 0) → v ≡ get_or cs i 0 → IsSame b first pick i cs → IsSame b first pick j cs
+same_more b cs pick first i j v p next is after stays h = λ k lt. elim (cases_lt k i) [
   | inl below ↦ h k below
   | inr over ↦ let here : i ≡ k = omega (arith, lt, next, over) in
-      ap (λ (k : ℕ). class_after (point_of b (first + k)) (get_or cs k 0) e) (sym here) ∙ ap (λ q. class_after q (get_or cs i 0) e) (sym is) ∙ sym after ∙ stays ∙ ap (λ (k : ℕ). get_or cs k 0) here
+      ap (λ (k : ℕ). pick (point_of b (first + k)) (get_or cs k 0)) (sym here) ∙ ap (λ q. pick q (get_or cs i 0)) (sym is) ∙ sym after ∙ stays ∙ ap (λ (k : ℕ). get_or cs k 0) here
 ]

@@ -1,4 +1,4 @@
--- A version's pages after one more edit, and how many classes changed on them.
+-- A version's pages with the classes picked for them, and how many classes changed on them.
 use Rattle.std.proofs.Common.{◌≡◌, ℕ, zero, suc, ◌+◌, ◌-◌, ◌*◌, ◌==◌, ◌<◌, ◌≤◌, not, min, Bool, false, cond, List, ◌++◌, length, get_or, take, refl, sym, ◌∙◌, ap, arith, count_by}
 use Rattle.std.proofs.lemmas.Bool.Decides.{nat_tests}
 use Rattle.std.proofs.lemmas.List.{ext_get_or, length-append, length-take, take_all, get_or_append_left, get_or-append-add}
@@ -8,34 +8,34 @@ use Rattle.std.proofs.Math.Seq.{take-add}
 use Rattle.std.specs.List.{range_with_len}
 use Rattle.view_meaning.proofs.Rows.{range-append}
 use Rattle.view_meaning.specs.Survey.{point_of}
-use Rattle.view_meaning.specs.Classes.{Edit, class_after, changed}
+use Rattle.view_meaning.specs.Classes.{changed}
 use Rattle.class_pages.proofs.Pages.{get_or-page_of, length-page_of}
 use Rattle.class_pages.proofs.Steps.{counts_more, counts_same}
-use Rattle.class_pages.specs.AfterEdit.{after_edit, IsAfter}
+use Rattle.class_pages.specs.Choosing.{Pick, chosen, IsAfter}
 use Rattle.class_pages.specs.Pages.{page_of}
 
-pub length-after_edit : (b cs : List ℕ) (e : Edit) → length (after_edit b cs e) ≡ length cs
-unfolding after_edit
-length-after_edit b cs e = length-map-range_with_len (λ i. class_after (point_of b i) (get_or cs i 0) e) 0 (length cs)
+pub length-chosen : (b : List ℕ) (pick : Pick) (cs : List ℕ) → length (chosen b pick cs) ≡ length cs
+unfolding chosen
+length-chosen b pick cs = length-map-range_with_len (λ i. pick (point_of b i) (get_or cs i 0)) 0 (length cs)
 
-pub get_or-after_edit : (b cs : List ℕ) (e : Edit) (i : ℕ) → i < length cs → get_or (after_edit b cs e) i 0 ≡ class_after (point_of b i) (get_or cs i 0) e
-unfolding after_edit
-get_or-after_edit b cs e i within = get_or-map-range_with_len (λ i. class_after (point_of b i) (get_or cs i 0) e) 0 (length cs) i i 0 within (omega arith)
+pub get_or-chosen : (b : List ℕ) (pick : Pick) (cs : List ℕ) (i : ℕ) → i < length cs → get_or (chosen b pick cs) i 0 ≡ pick (point_of b i) (get_or cs i 0)
+unfolding chosen
+get_or-chosen b pick cs i within = get_or-map-range_with_len (λ i. pick (point_of b i) (get_or cs i 0)) 0 (length cs) i i 0 within (omega arith)
 
--- a page after the edit is the page of the classes after the edit
-pub page_after_edit : (b cs old new : List ℕ) (e : Edit) (k : ℕ) → old ≡ page_of cs k → IsAfter b (k * 4096) e old new → new ≡ page_of (after_edit b cs e) k
-page_after_edit b cs old new e k is h =
+-- a page after the picking is the page of the classes picked
+pub page_chosen : (b : List ℕ) (pick : Pick) (cs old new : List ℕ) (k : ℕ) → old ≡ page_of cs k → IsAfter b (k * 4096) pick old new → new ≡ page_of (chosen b pick cs) k
+page_chosen b pick cs old new k is h =
     let long : length old ≡ min 4096 (length cs - k * 4096) = ap length is ∙ length-page_of cs k in
-    let size : length new ≡ length (page_of (after_edit b cs e) k) =
-    h.size ∙ long ∙ ap (λ (n : ℕ). min 4096 (n - k * 4096)) (sym (length-after_edit b cs e)) ∙ sym (length-page_of (after_edit b cs e) k) in
-    ext_get_or 0 new (page_of (after_edit b cs e) k) size (λ i lt.
+    let size : length new ≡ length (page_of (chosen b pick cs) k) =
+    h.size ∙ long ∙ ap (λ (n : ℕ). min 4096 (n - k * 4096)) (sym (length-chosen b pick cs)) ∙ sym (length-page_of (chosen b pick cs) k) in
+    ext_get_or 0 new (page_of (chosen b pick cs) k) size (λ i lt.
     let within : i < length old = omega (arith, lt, h.size) in
     let most : i < 4096 = omega (arith, within, long) in
     let there : k * 4096 + i < length cs = omega (arith, within, long) in
-    h.each i within ∙ ap (λ (l : List ℕ). class_after (point_of b (k * 4096 + i)) (get_or l i 0) e) is
-    ∙ ap (λ (c : ℕ). class_after (point_of b (k * 4096 + i)) c e) (get_or-page_of cs k i 0 most)
-    ∙ sym (get_or-after_edit b cs e (k * 4096 + i) there)
-    ∙ sym (get_or-page_of (after_edit b cs e) k i 0 most))
+    h.each i within ∙ ap (λ (l : List ℕ). pick (point_of b (k * 4096 + i)) (get_or l i 0)) is
+    ∙ ap (pick (point_of b (k * 4096 + i))) (get_or-page_of cs k i 0 most)
+    ∙ sym (get_or-chosen b pick cs (k * 4096 + i) there)
+    ∙ sym (get_or-page_of (chosen b pick cs) k i 0 most))
 
 counts_shift : (p : ℕ → Bool) (a n : ℕ) → count_by p (range_with_len a n) ≡ count_by (λ k. p (a + k)) (range_with_len 0 n)
 counts_shift p a zero = refl

@@ -1,6 +1,6 @@
-pub mod AfterEdit
 pub mod Boxes
+pub mod Choosing
+pub mod Drafts
+pub mod Edited
 pub mod Fitting
 pub mod Pages
-pub mod Drafts
-pub mod Underway

@@ -1,20 +1,15 @@
-ghost use Rattle.std.specs.Prelude.{◌≡◌, ◌≢◌, ◌≤◌, ◌<◌, ◌+◌, ◌*◌, ◌^◌, ◌++◌, ◌∷◌, [], All, List, IfOk, IfSome, length, take, drop, slice_index};
+ghost use Rattle.std.specs.Prelude.{◌≡◌, ◌≤◌, ◌<◌, ◌+◌, ◌*◌, ◌^◌, [], All, IfOk, length, slice_index};
 ghost use Rattle.std.specs.Arc.{arc_value};
-ghost use Rattle.class_pages.specs.AfterEdit.{after_edit, IsAfter};
-ghost use Rattle.class_pages.specs.Boxes.{AreBoxesOf};
+ghost use Rattle.class_pages.specs.Choosing.{IsAfter, IsChosen, chosen};
+ghost use Rattle.class_pages.specs.Edited.{IsEdited};
 ghost use Rattle.class_pages.specs.Fitting.{EachFits};
 ghost use Rattle.class_pages.specs.Pages.{page_count, page_of};
-ghost use Rattle.grid_blocks.specs.Blocks.{IsBlocks};
 ghost use Rattle.view_meaning.specs.Classes as meaning;
-ghost use Rattle.view_meaning.specs.Survey.{record_count, format_of, point_of};
+ghost use Rattle.view_meaning.specs.Survey.{record_count, format_of};
 
-use crate::boxes::{PageBoxes, may_change};
-use crate::by_blocks::reclassify_block;
-use crate::costs::is_quicker_by_pages;
-use crate::draft::Draft;
+use crate::chooser::Chooser;
 use crate::page::{PAGE, Page, page_after, page_read};
 use edit_ops::Edit;
-use grid_blocks::Blocks;
 use las_survey::Survey;
 use std::alloc::Global;
 use std::marker::Model;
@@ -25,8 +20,8 @@ use view_base::OutOfMemory;
 /// classes; the type keeps that each page but the last has `PAGE` of them.
 #[derive(Drop)]
 pub struct Classes {
-    pages: Vec<Arc<Page>>,
-    records: usize,
+    pub(crate) pages: Vec<Arc<Page>>,
+    pub(crate) records: usize,
 }
 
 impl Model for Classes {
@@ -101,136 +96,53 @@ impl Classes {
     ) -> Result<(Classes, u64), OutOfMemory>
         requires records { length self.now ≡ record_count survey.now }
         requires room { edit.now.to ≤ meaning.top_class (format_of survey.now) }
-        ensures classes { IfOk result (λ made. made.0 ≡ after_edit survey.now self.now edit.now) }
-        ensures edits { IfOk result (λ made. (edits : List meaning.Edit) → self.now ≡ meaning.classes survey.now edits → made.0 ≡ meaning.classes survey.now (edits ++ edit.now ∷ [])) }
-        ensures count { IfOk result (λ made. made.1 ≡ meaning.changed self.now made.0) }
-        ensures size { IfOk result (λ made. length made.0 ≡ record_count survey.now) }
-        ensures top { IfOk result (λ made. EachFits (format_of survey.now) self.now → EachFits (format_of survey.now) made.0) }
+        ensures { IfOk result (λ made. IsEdited survey.now edit.now self.now made.0 made.1) }
     {
-        self.after(alloc, survey, None, edit)
+        self.picked(alloc, survey, edit)
     }
 
-    /// `edited`, which looks only at the records of the pages whose box the edit's area meets.
-    pub fn edited_by_boxes(
+    /// The classes that a chooser picks for the records, and how many of them differ from before.
+    /// It looks at each record. A page on which no class changes is shared. A refusal is want of
+    /// memory.
+    pub fn chosen<T: Chooser>(
         &self,
         alloc: Global,
         survey: &Survey,
-        boxes: &PageBoxes,
-        edit: &Edit,
+        chooser: &T,
     ) -> Result<(Classes, u64), OutOfMemory>
-        requires boxes { AreBoxesOf survey.now boxes.now }
         requires records { length self.now ≡ record_count survey.now }
-        requires room { edit.now.to ≤ meaning.top_class (format_of survey.now) }
-        ensures classes { IfOk result (λ made. made.0 ≡ after_edit survey.now self.now edit.now) }
-        ensures edits { IfOk result (λ made. (edits : List meaning.Edit) → self.now ≡ meaning.classes survey.now edits → made.0 ≡ meaning.classes survey.now (edits ++ edit.now ∷ [])) }
-        ensures count { IfOk result (λ made. made.1 ≡ meaning.changed self.now made.0) }
-        ensures size { IfOk result (λ made. length made.0 ≡ record_count survey.now) }
-        ensures top { IfOk result (λ made. EachFits (format_of survey.now) self.now → EachFits (format_of survey.now) made.0) }
+        requires room { EachFits (format_of survey.now)
+            (chosen survey.now (T.picks chooser.now) self.now) }
+        ensures chosen { IfOk result (λ made.
+            IsChosen survey.now (T.picks chooser.now) self.now made.0 made.1) }
+        ensures top { IfOk result (λ made. EachFits (format_of survey.now) made.0) }
     {
-        self.after(alloc, survey, Some(boxes), edit)
+        self.picked(alloc, survey, chooser)
     }
 
-    /// `edited`, which looks only at the records of the blocks whose box the edit's area meets, or at
-    /// all records where that is quicker.
-    pub fn edited_by(
+    /// The classes that a chooser picks for the records, and how many differ from before. Room for
+    /// the list of pages is made before any page.
+    fn picked<T: Chooser>(
         &self,
         alloc: Global,
         survey: &Survey,
-        blocks: &Blocks,
-        edit: &Edit,
+        chooser: &T,
     ) -> Result<(Classes, u64), OutOfMemory>
-        requires blocks { IsBlocks survey.now blocks.now }
         requires records { length self.now ≡ record_count survey.now }
-        requires room { edit.now.to ≤ meaning.top_class (format_of survey.now) }
-        ensures classes { IfOk result (λ made. made.0 ≡ after_edit survey.now self.now edit.now) }
-        ensures edits { IfOk result (λ made. (edits : List meaning.Edit) → self.now ≡ meaning.classes survey.now edits → made.0 ≡ meaning.classes survey.now (edits ++ edit.now ∷ [])) }
-        ensures count { IfOk result (λ made. made.1 ≡ meaning.changed self.now made.0) }
-        ensures size { IfOk result (λ made. length made.0 ≡ record_count survey.now) }
-        ensures top { IfOk result (λ made. EachFits (format_of survey.now) self.now → EachFits (format_of survey.now) made.0) }
-    {
-        if is_quicker_by_pages(survey.records(), blocks, edit) {
-            return self.after(alloc, survey, None, edit);
-        }
-        self.after_blocks(alloc, survey, blocks, edit)
-    }
-
-    /// The classes after an edit, and how many differ from before, block by block.
-    fn after_blocks(
-        &self,
-        alloc: Global,
-        survey: &Survey,
-        blocks: &Blocks,
-        edit: &Edit,
-    ) -> Result<(Classes, u64), OutOfMemory>
-        requires blocks { IsBlocks survey.now blocks.now }
-        requires records { length self.now ≡ record_count survey.now }
-        requires room { edit.now.to ≤ meaning.top_class (format_of survey.now) }
-        ensures classes { IfOk result (λ made. made.0 ≡ after_edit survey.now self.now edit.now) }
-        ensures edits { IfOk result (λ made. (edits : List meaning.Edit) → self.now ≡ meaning.classes survey.now edits → made.0 ≡ meaning.classes survey.now (edits ++ edit.now ∷ [])) }
-        ensures count { IfOk result (λ made. made.1 ≡ meaning.changed self.now made.0) }
-        ensures size { IfOk result (λ made. length made.0 ≡ record_count survey.now) }
-        ensures top { IfOk result (λ made. EachFits (format_of survey.now) self.now → EachFits (format_of survey.now) made.0) }
-    {
-        let mut draft = Draft::of(alloc, &self.pages, self.records)?;
-        let mut changed = 0;
-        for k in 0..blocks.count() {
-            changed += reclassify_block(&mut draft, alloc, survey, blocks, k, edit)?;
-        }
-        let pages = draft.into_pages(alloc)?;
-        let records = self.records;
-        Ok((Classes { pages, records }, changed))
-    }
-
-    /// The classes after an edit, and how many differ from before. A page is looked at where its
-    /// box meets the edit's area, or where there are no boxes. Room for the list of pages is made
-    /// before any page.
-    fn after(
-        &self,
-        alloc: Global,
-        survey: &Survey,
-        boxes: Option<&PageBoxes>,
-        edit: &Edit,
-    ) -> Result<(Classes, u64), OutOfMemory>
-        requires boxes { IfSome boxes (λ boxes. AreBoxesOf survey.now boxes.now) }
-        requires records { length self.now ≡ record_count survey.now }
-        requires room { edit.now.to ≤ meaning.top_class (format_of survey.now) }
-        ensures classes { IfOk result (λ made. made.0 ≡ after_edit survey.now self.now edit.now) }
-        ensures edits { IfOk result (λ made. (edits : List meaning.Edit) → self.now ≡ meaning.classes survey.now edits → made.0 ≡ meaning.classes survey.now (edits ++ edit.now ∷ [])) }
-        ensures count { IfOk result (λ made. made.1 ≡ meaning.changed self.now made.0) }
-        ensures size { IfOk result (λ made. length made.0 ≡ record_count survey.now) }
-        ensures top { IfOk result (λ made. EachFits (format_of survey.now) self.now → EachFits (format_of survey.now) made.0) }
+        requires bytes { All (λ class. class < 256) self.now
+            → All (λ class. class < 256) (chosen survey.now (T.picks chooser.now) self.now) }
+        ensures { IfOk result (λ made.
+            IsChosen survey.now (T.picks chooser.now) self.now made.0 made.1) }
     {
         let mut pages = Vec::with_capacity(alloc, self.pages.len())?;
         let mut changed = 0;
         for k in 0..self.pages.len() {
-            let (page, count) = next_page(alloc, &self.pages[k], survey, k, boxes, edit)?;
+            let first = (k * PAGE) as u32;
+            let (page, count) = page_after(alloc, &self.pages[k], survey, first, chooser)?;
             pages.push(page)?;
             changed += count;
         }
         let records = self.records;
         Ok((Classes { pages, records }, changed))
     }
-}
-
-/// Page `k` after an edit, and how many of its classes differ from before.
-fn next_page(
-    alloc: Global,
-    page: &Arc<Page>,
-    survey: &Survey,
-    k: usize,
-    boxes: Option<&PageBoxes>,
-    edit: &Edit,
-) -> Result<(Arc<Page>, u64), OutOfMemory>
-    requires boxes { IfSome boxes (λ boxes. AreBoxesOf survey.now boxes.now) }
-    requires within { k * 4096 + length (arc_value page.now) ≤ record_count survey.now }
-    requires least { 1 ≤ length (arc_value page.now) }
-    requires most { length (arc_value page.now) ≤ 4096 }
-    requires few { record_count survey.now < 2 ^ 32 }
-    ensures after { IfOk result (λ made. IsAfter survey.now (k * 4096) edit.now (arc_value page.now) (arc_value made.0)) }
-    ensures count { IfOk result (λ made. made.1 ≡ meaning.changed (arc_value page.now) (arc_value made.0)) }
-{
-    if may_change(boxes, survey, k, edit.area) {
-        return page_after(alloc, page, survey, (k * PAGE) as u32, edit);
-    }
-    Ok((Arc::try_clone(page)?, 0))
 }

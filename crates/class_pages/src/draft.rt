@@ -1,16 +1,15 @@
-ghost use Rattle.std.specs.Prelude.{◌≡◌, ◌<◌, IfOk, OnErr, OnOk, length, slice_index, slice_set};
+ghost use Rattle.std.specs.Prelude.{◌≡◌, ◌<◌, ◌^◌, IfOk, OnErr, length, slice_index};
 ghost use Rattle.std.specs.Arc.{arc_value};
-ghost use Rattle.std.specs.List.{flat_map};
-ghost use Rattle.class_pages.specs.AfterEdit.{changes_inside, class_inside};
+ghost use Rattle.class_pages.specs.Choosing.{IsPicked};
 ghost use Rattle.class_pages.specs.Drafts.{classes_on};
-ghost use Rattle.class_pages.specs.Pages.{IsPaged};
 
-use crate::page::{PAGE, Page, class_inside};
-use edit_ops::Edit;
+use crate::chooser::Chooser;
+use crate::classes::Classes;
+use crate::page::{PAGE, Page};
 use std::alloc::Global;
 use std::marker::Model;
 use std::sync::Arc;
-use view_base::OutOfMemory;
+use view_base::{OutOfMemory, Point};
 
 /// A page of a draft: one that versions share, or the draft's own copy of one.
 #[derive(Drop)]
@@ -30,42 +29,51 @@ impl DraftPage {
         }
     }
 
-    /// Makes an edit of the class at a place, whose record is in the edit's area, and answers how
-    /// many classes change.
+    /// Gives the class at a place the one that is picked for a point, and answers how many classes
+    /// change. Where none does the page is what it was, shared or not.
     #[inline]
-    fn change(&mut self, alloc: Global, place: usize, edit: &Edit) -> Result<u64, OutOfMemory>
+    fn change<T: Chooser>(
+        &mut self,
+        alloc: Global,
+        place: usize,
+        p: Point,
+        chooser: &T,
+    ) -> Result<u64, OutOfMemory>
         requires { place < length (classes_on self.old) }
-        ensures made { OnOk result (classes_on self.new ≡ slice_set (classes_on self.old) place (class_inside (slice_index (classes_on self.old) place) edit.now)) }
-        ensures count { IfOk result (λ changed. changed ≡ changes_inside (slice_index (classes_on self.old) place) edit.now) }
-        ensures byte { class_inside (slice_index (classes_on self.old) place) edit.now < 256 }
+        ensures picked { IfOk result (λ changed.
+            IsPicked (T.picks chooser.now) p place (classes_on self.old) (classes_on self.new) changed) }
+        ensures byte { T.picks chooser.now p (slice_index (classes_on self.old) place) < 256 }
+        ensures left { IfOk result (λ changed. changed ≡ 0 → self.new ≡ self.old) }
         ensures refused { OnErr result (self.new ≡ self.old) }
     {
         if let DraftPage::Own(page) = self {
-            return Ok(page.change(place, edit));
+            return Ok(page.change(place, p, chooser));
         }
-        self.change_copied(alloc, place, edit)
+        self.change_copied(alloc, place, p, chooser)
     }
 
     /// `change` of a page that is copied where the class changes, and stays what it was for those
     /// who share it.
-    fn change_copied(
+    fn change_copied<T: Chooser>(
         &mut self,
         alloc: Global,
         place: usize,
-        edit: &Edit,
+        p: Point,
+        chooser: &T,
     ) -> Result<u64, OutOfMemory>
         requires { place < length (classes_on self.old) }
-        ensures made { OnOk result (classes_on self.new ≡ slice_set (classes_on self.old) place (class_inside (slice_index (classes_on self.old) place) edit.now)) }
-        ensures count { IfOk result (λ changed. changed ≡ changes_inside (slice_index (classes_on self.old) place) edit.now) }
-        ensures byte { class_inside (slice_index (classes_on self.old) place) edit.now < 256 }
+        ensures picked { IfOk result (λ changed.
+            IsPicked (T.picks chooser.now) p place (classes_on self.old) (classes_on self.new) changed) }
+        ensures byte { T.picks chooser.now p (slice_index (classes_on self.old) place) < 256 }
+        ensures left { IfOk result (λ changed. changed ≡ 0 → self.new ≡ self.old) }
         ensures refused { OnErr result (self.new ≡ self.old) }
     {
         let class = self.as_slice()[place];
-        if class_inside(edit, class) == class {
+        if chooser.choose(p, class) == class {
             return Ok(0);
         }
         let mut page = Page::copied(alloc, self.as_slice())?;
-        let changed = page.change(place, edit);
+        let changed = page.change(place, p, chooser);
         *self = DraftPage::Own(page);
         Ok(changed)
     }
@@ -81,10 +89,11 @@ impl DraftPage {
     }
 }
 
-/// Classes that change one by one: a page is copied before the first class on it changes, and each
-/// other page stays shared. Contracts see the list of classes.
+/// A draft of a version's classes, which change one by one: a page is copied before the first class
+/// on it changes, and each other page stays shared with that version. Contracts see the list of
+/// classes.
 #[derive(Drop)]
-pub(crate) struct Draft {
+pub struct Draft {
     pages: Vec<DraftPage>,
     records: usize,
 }
@@ -103,49 +112,49 @@ impl Model for Draft {
 }
 
 impl Draft {
-    /// A draft of a version with these pages, all of them shared with it.
-    pub(crate) fn of(
-        alloc: Global,
-        pages: &[Arc<Page>],
-        records: usize,
-    ) -> Result<Draft, OutOfMemory>
-        requires { IsPaged arc_value records pages.now }
-        ensures { IfOk result (λ draft. draft ≡ flat_map arc_value pages.now) }
+    /// A draft of a version, all of whose pages are shared with it. A refusal is want of memory.
+    pub fn of(alloc: Global, version: &Classes) -> Result<Draft, OutOfMemory>
+        ensures classes { IfOk result (λ draft. draft ≡ version.now) }
+        ensures few { length version.now < 2 ^ 32 }
     {
-        let mut shared = Vec::with_capacity(alloc, pages.len())?;
-        for k in 0..pages.len() {
-            shared.push(DraftPage::Shared(Arc::try_clone(&pages[k])?))?;
+        let mut pages = Vec::with_capacity(alloc, version.pages.len())?;
+        for k in 0..version.pages.len() {
+            pages.push(DraftPage::Shared(Arc::try_clone(&version.pages[k])?))?;
         }
-        Ok(Draft {
-            pages: shared,
-            records,
-        })
+        let records = version.records;
+        Ok(Draft { pages, records })
     }
 
-    /// Makes an edit of the class of record `i`, which is in the edit's area, and answers how many
-    /// classes change.
+    /// Gives record `i` the class that is picked for a point and its class, and answers how many
+    /// classes change: 0 or 1. A refusal is want of memory, and leaves the draft as it was.
     #[inline]
-    pub(crate) fn change(&mut self, alloc: Global, i: u32, edit: &Edit) -> Result<u64, OutOfMemory>
+    pub fn change<T: Chooser>(
+        &mut self,
+        alloc: Global,
+        i: u32,
+        p: Point,
+        chooser: &T,
+    ) -> Result<u64, OutOfMemory>
         requires { i < length self.old }
-        ensures made { OnOk result (self.new ≡ slice_set self.old i (class_inside (slice_index self.old i) edit.now)) }
-        ensures count { IfOk result (λ changed. changed ≡ changes_inside (slice_index self.old i) edit.now) }
+        ensures picked { IfOk result (λ changed.
+            IsPicked (T.picks chooser.now) p i self.old self.new changed) }
+        ensures refused { OnErr result (self.new ≡ self.old) }
     {
-        self.pages[i as usize / PAGE].change(alloc, i as usize % PAGE, edit)
+        self.pages[i as usize / PAGE].change(alloc, i as usize % PAGE, p, chooser)
     }
 
-    /// The pages, to be shared.
-    pub(crate) fn into_pages(self, alloc: Global) -> Result<Vec<Arc<Page>>, OutOfMemory>
-        ensures classes { IfOk result (λ pages. flat_map arc_value pages.items ≡ self) }
-        ensures paged { IfOk result (λ pages. IsPaged arc_value (length self) pages.items) }
+    /// The version that has these classes. A refusal is want of memory.
+    pub fn into_classes(self, alloc: Global) -> Result<Classes, OutOfMemory>
+        ensures { IfOk result (λ classes. classes ≡ self) }
     {
         let Draft {
             pages: drafted,
-            records: _,
+            records,
         } = self;
         let mut pages = Vec::with_capacity(alloc, drafted.len())?;
         for page in drafted {
             pages.push(page.into_shared(alloc)?)?;
         }
-        Ok(pages)
+        Ok(Classes { pages, records })
     }
 }

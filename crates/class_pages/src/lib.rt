@@ -1,18 +1,14 @@
-//! The classes of a survey's records: those in its file, and those after an edit. They stand in
-//! pages, and versions share the pages in which no class differs.
+//! The classes of a survey's records: those in its file, those after an edit, and those that are
+//! picked by other means. They stand in pages, and versions share the pages in which no class differs.
 #![tactic(auto)]
 
-#[cfg(test)]
-mod block_tests;
 mod boxes;
-mod by_blocks;
+mod chooser;
 mod classes;
-mod costs;
 mod draft;
 mod page;
-#[cfg(test)]
-mod tests;
 
-pub use boxes::{PageBoxes, page_boxes};
+pub use chooser::Chooser;
 pub use classes::{Classes, base};
+pub use draft::Draft;
 pub use page::{PAGE, Page};

@@ -10,4 +10,4 @@ mod writing;
 pub use edit::{Edit, applies};
 pub use fault::EditFault;
 pub use reading::read_edit;
-pub use writing::edit_text;
+pub use writing::{classes_text, edit_text};

@@ -1,8 +1,10 @@
-ghost use Rattle.std.specs.Prelude.{◌≡◌, ℕ, ◌+◌, ◌≤◌, ◌++◌, ◌∷◌, [], length, decimal, Ok, OnOk, OnErr, FitsSigned, if◌then◌else◌};
+ghost use Rattle.std.specs.Prelude.{◌≡◌, ℕ, ◌+◌, ◌<◌, ◌≤◌, ◌++◌, ◌∷◌, [], length, decimal, Ok, Some, OnOk, OnErr, FitsSigned, if◌then◌else◌};
 ghost use Rattle.std.specs.Fmt.{signed_decimal};
 ghost use Rattle.std.specs.Int.{w32};
 ghost use Rattle.view_meaning.specs.Classes.{top_class};
 ghost use Rattle.view_base.specs.Text.{words};
+ghost use Rattle.class_bits.specs.ClassSet.{members, class_list};
+ghost use Rattle.class_bits.specs.Kept.{IsClassSet};
 ghost use Rattle.edit_ops.specs.Edit.{IsPoint};
 ghost use Rattle.edit_ops.specs.EditLine.{edit_of};
 ghost use Rattle.edit_ops.specs.EditLine.{run_text, classes_text, canonical};
@@ -37,6 +39,21 @@ pub fn edit_text(edit: &Edit, out: &mut Bytes) -> Result<(), OutOfMemory>
     append_classes(out, &edit.from);
     out.append_within(b" ");
     append_class(out, edit.to);
+    Ok(())
+}
+
+/// Appends the canonical class list of a set that has a class, as a canonical edit line has it:
+/// `all`, or the longest runs of neighbours as `a` or `a-b` in rising order, with single commas
+/// between them. It makes room for the longest list first, and a refusal is want of that room and
+/// leaves the bytes as they were. Reading the list gives the set again.
+pub fn classes_text(set: &ClassSet, out: &mut Bytes) -> Result<(), OutOfMemory>
+    requires { 0 < length (members set.now) }
+    ensures appended { OnOk result (out.new.items ≡ out.old.items ++ classes_text set.now) }
+    ensures refused { OnErr result (out.new.items ≡ out.old.items) }
+    ensures reads_back { OnOk result (IsClassSet set.now → class_list (classes_text set.now) ≡ Some set.now) }
+{
+    out.reserve(LIST)?;
+    append_classes(out, set);
     Ok(())
 }
 
@@ -119,35 +136,4 @@ fn append_item(out: &mut Bytes, is_first: bool, first: u8, last: u8)
         out.append_within(b",");
     }
     append_run(out, first, last);
-}
-
-#[cfg(test)]
-mod tests {
-    use super::*;
-    use crate::reading::read_edit;
-    use std::test::Fail;
-
-    #[test]
-    fn a_line_is_written_canonically(rt: HostRuntime) -> Result<(), Fail> {
-        for (line, canonical) in [
-            (
-                b"edit 007 -0 0 9 9 9 3,1-2,2 06".as_slice(),
-                b"edit 7 0 0 9 9 9 1-3 6".as_slice(),
-            ),
-            (
-                b" edit\t-2147483648 0 0 0 0 2147483647 0-255 255".as_slice(),
-                b"edit -2147483648 0 0 0 0 2147483647 all 255".as_slice(),
-            ),
-            (
-                b"edit 0 0 0 0 0 0 255,7,9-10,0 0".as_slice(),
-                b"edit 0 0 0 0 0 0 0,7,9-10,255 0".as_slice(),
-            ),
-        ] {
-            let edit = read_edit(line, 6)?;
-            let mut text = Bytes::new(rt.alloc());
-            edit_text(&edit, &mut text)?;
-            assert_eq!(rt; text.as_slice(), canonical);
-        }
-        Ok(())
-    }
 }

@@ -3,8 +3,6 @@
 #![tactic(auto)]
 
 mod records;
-#[cfg(test)]
-mod tests;
 mod writing;
 
 pub use records::run_from;

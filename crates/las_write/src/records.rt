@@ -30,7 +30,8 @@ pub(crate) fn copy_records(piece: &mut [u8], survey: &Survey, classes: &[u8], fi
     requires within { first + length classes.now ≤ record_count survey.now }
     requires size { length piece.old ≡ length classes.now * record_length survey.now }
     requires room { EachFits (format_of survey.now) classes.now }
-    ensures { (all : List ℕ) → classes.now ≡ take (length classes.now) (drop first all) → piece.new ≡ saved_records survey.now all first (length classes.now) }
+    ensures { (all : List ℕ) → classes.now ≡ take (length classes.now) (drop first all)
+        → piece.new ≡ saved_records survey.now all first (length classes.now) }
 {
     let bytes = survey.bytes();
     let header = survey.header();
@@ -44,9 +45,11 @@ fn set_classes(piece: &mut [u8], survey: &Survey, classes: &[u8], first: u32)
     requires there { HasPoints survey.now }
     requires within { first + length classes.now ≤ record_count survey.now }
     requires size { length piece.old ≡ length classes.now * record_length survey.now }
-    requires read { piece.old ≡ take (length classes.now * record_length survey.now) (drop (record_at survey.now first) survey.now) }
+    requires read { piece.old ≡ take (length classes.now * record_length survey.now)
+        (drop (record_at survey.now first) survey.now) }
     requires room { EachFits (format_of survey.now) classes.now }
-    ensures { (all : List ℕ) → classes.now ≡ take (length classes.now) (drop first all) → piece.new ≡ saved_records survey.now all first (length classes.now) }
+    ensures { (all : List ℕ) → classes.now ≡ take (length classes.now) (drop first all)
+        → piece.new ≡ saved_records survey.now all first (length classes.now) }
 {
     let header = survey.header();
     let size = usize::from(header.length);

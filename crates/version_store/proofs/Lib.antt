@@ -9,3 +9,5 @@ pub mod Owed
 pub mod Examples
 pub mod SharedCalls
 pub mod SharedSteps
+pub mod Further
+pub mod Blockwise

@@ -1,4 +1,4 @@
 pub mod Histories
 pub mod Store
 pub mod Sharing
-pub mod Indexed
+pub mod Underway

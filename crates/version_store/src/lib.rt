@@ -4,6 +4,8 @@
 #![tactic(auto)]
 
 mod ahead;
+mod by_blocks;
+mod costs;
 mod held;
 mod history;
 mod indexed;
@@ -15,6 +17,8 @@ mod store;
 #[cfg(test)]
 mod tests;
 
+pub use by_blocks::{chosen_by, edited_by};
+pub use costs::is_quicker_by_pages;
 pub use held::Held;
 pub use history::{Entry, History, What};
 pub use pin::Pin;

@@ -50,7 +50,7 @@ impl Store {
     pub fn new(alloc: Global, survey: Arc<Survey>) -> Result<Store, OutOfMemory>
         ensures { IfOk result (λ store. store ≡ record { bytes = arc_value survey; history = [] }) }
     {
-        Store::of(alloc, IndexedSurvey::by_pages(alloc, survey)?)
+        Store::of(alloc, IndexedSurvey::by_number(alloc, survey)?)
     }
 
     /// The store of a survey and blocks of its records, as `new` makes it. A refusal is want of
