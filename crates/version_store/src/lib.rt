@@ -7,6 +7,7 @@ mod ahead;
 mod held;
 mod history;
 mod indexed;
+mod over;
 mod pin;
 mod shared;
 #[cfg(test)]
@@ -14,9 +15,13 @@ mod shared_tests;
 mod store;
 #[cfg(test)]
 mod tests;
+mod versioned;
 
+pub use ahead::Ahead;
 pub use held::Held;
 pub use history::{Entry, History, What};
+pub use over::SharedOver;
 pub use pin::Pin;
 pub use shared::{Pass, Shared};
 pub use store::Store;
+pub use versioned::Versioned;

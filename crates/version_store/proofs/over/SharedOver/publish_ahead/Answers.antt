@@ -1,30 +1,24 @@
-use Rattle.std.proofs.Common.{◌≡◌, ℕ, List, ap, sym, ◌∙◌, subst}
-use Rattle.turn_gate.specs.Meaning.{Passed, Turned}
-use Rattle.version_store.specs.declared.history.Entry.{Entry}
+use Rattle.std.proofs.Common.{ℕ, List, ap, sym, ◌∙◌, subst}
 use Rattle.version_store.specs.declared.history.What.TheVariants.{Publish}
 use Rattle.version_store.specs.Histories.{journal}
-use Rattle.version_store.specs.Sharing.{SharedStore, IsAhead}
-use Rattle.version_store.specs.Store.{with_entry}
-use Rattle.version_store.proofs.SharedSteps.{IsAhead-later, gains_entry, count_shown, on_ok}
-use Rattle.version_store.proofs.shared.Shared.publish_ahead.Goals as goal
+use Rattle.version_store.specs.Sharing.{IsAhead}
+use Rattle.version_store.specs.Versioned.{entry_by}
+use Rattle.version_store.proofs.SharedSteps.{IsAhead-later, answer_noted, history_begins}
+use Rattle.version_store.proofs.over.SharedOver.publish_ahead.Goals as goal
 
-pub publish-answer-requires-clause-ahead : goal.publish-answer-requires-clause-ahead
-publish-answer-requires-clause-ahead g c newest_is =
-    let found = c.enter-turn.result.1.history in
-    let bytes : c.enter-turn.result.1.bytes ≡ c.args.self.now.bytes = c.enter-turn.ensures.base ∙ ap (λ (s : SharedStore). s.bytes) c.self.view_is in
-    subst (λ (b : List ℕ). IsAhead b (journal found) c.args.edit.now c.args.ahead) (sym bytes)
-    (IsAhead-later c.args.self.now.bytes c.args.pass.now.seen found c.args.edit.now c.args.ahead c.enter-turn.ensures.seen c.requires.ahead newest_is)
+pub publish_ahead-answer-requires-clause-ahead : goal.publish_ahead-answer-requires-clause-ahead
+publish_ahead-answer-requires-clause-ahead g c newest_is =
+    let history = g.V.Versioned.history in
+    let seen = c.args.pass.now.seen in
+    let found = g.V.Replayed.entries c.enter-turn.result.1 in
+    let bytes = g.met.V.Versioned.bytes_of_base c.enter-turn.result.1 c.args.self.now.first (c.enter-turn.ensures.base ∙ ap (λ s. g.V.Replayed.base s.first) c.self.view_is) in
+    subst (λ (b : List ℕ). IsAhead b (journal (history found)) c.args.edit.now c.args.ahead) (sym bytes)
+    (IsAhead-later (g.V.Versioned.bytes c.args.self.now.first) (history seen) (history found) c.args.edit.now c.args.ahead
+    (history_begins history g.met.V.Versioned.history_append seen found c.enter-turn.ensures.seen) c.requires.ahead newest_is)
 
 pub note-requires-clause-entry : goal.note-requires-clause-entry
 note-requires-clause-entry g c =
-    let published = on_ok c.publish-answer.result (c.publish-answer.new.store ≡ with_entry c.enter-turn.result.1 c.who.result (Publish c.args.edit.now))
-    (sym c.is_ok.ensures.value ∙ c.if-is_ok.true) c.publish-answer.ensures.published in
-    gains_entry c.enter-turn.result.1 c.publish-answer.new.store c.who.result c.enter-turn.new.pass.who (Publish c.args.edit.now) c.enter-turn.result.0.noted
-    published (ap (λ (t : Turned Entry). t.noted) c.enter-turn.ensures.turn) c.who.ensures
-
-pub returns-clause-count : goal.returns-clause-count
-returns-clause-count g c =
-    count_shown c.publish-answer.result c.enter-turn.result.1 c.publish-answer.new.store c.who.result c.args.edit.now c.args.self.now.bytes c.leave.new.pass.seen
-    (c.enter-turn.ensures.base ∙ ap (λ (s : SharedStore). s.bytes) c.self.view_is)
-    (ap (λ (p : Passed Entry). p.seen) c.leave.ensures.pass)
-    c.publish-answer.ensures.published c.publish-answer.ensures.count
+    let done = entry_by c.who.result (Publish c.args.edit.now) in
+    answer_noted c.publish_ahead-answer.result g.V.Replayed.maker g.V.Versioned.history (λ made. g.V.Versioned.published c.who.result c.args.edit.now made.2) done
+    (g.V.Replayed.entries c.enter-turn.result.1) (g.V.Replayed.entries c.publish_ahead-answer.new.self) c.enter-turn.result.0.noted c.enter-turn.new.pass.who
+    (sym c.is_ok.ensures.value ∙ c.if-is_ok.true) c.publish_ahead-answer.ensures.made (ap (λ t. t.noted) c.enter-turn.ensures.turn) c.who.ensures
