@@ -2,7 +2,5 @@
 #![tactic(auto)]
 
 mod pins;
-#[cfg(test)]
-mod tests;
 
 pub use pins::Pins;

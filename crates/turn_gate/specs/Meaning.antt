@@ -1,5 +1,5 @@
 -- A gate, a pass and a turn as their callers see them.
-use Rattle.std.specs.Prelude.{◌≡◌, ℕ, ◌==◌, nat_lt, Bool, List, [], ◌∷◌, length, Option, Some, if◌then◌else◌}
+use Rattle.std.specs.Prelude.{◌≡◌, ℕ, ◌-◌, ◌==◌, nat_lt, Bool, true, false, List, [], ◌∷◌, ◌++◌, length, drop, Option, Some, None, if◌then◌else◌}
 use Rattle.atomic_table.specs.Seated.{TableId}
 
 -- which gate it is, and the value that it was made with
@@ -18,6 +18,18 @@ pub record Passed (E : Type 0) : Type 0 where
   pub out : ℕ
   pub given : ℕ
   pub kept : List (ℕ × List E)
+
+-- the root pass of a gate that was just made
+abbrev pub root_pass : {E : Type 0} → TableId → Passed E
+root_pass gate = record { gate = gate; who = 0; seen = []; mine = []; turn = None; root = true; out = 0; given = 0; kept = [] }
+
+-- a pass of that number that was just split off, when its root had seen these entries
+abbrev pub new_pass : {E : Type 0} → TableId → ℕ → List E → Passed E
+new_pass gate who seen = record { gate = gate; who = who; seen = seen; mine = []; turn = None; root = false; out = 0; given = 0; kept = [] }
+
+-- the pass in its turn once the entries of a history are counted that are past those noted before
+abbrev pub counted : {E : Type 0} → Passed E → List E → List E → Passed E
+counted pass noted entries = record pass { mine = pass.mine ++ drop (length noted) entries; turn = Some entries }
 
 -- which gate the turn is of, the number of its pass, and the entries that were found and noted
 pub record Turned (E : Type 0) : Type 0 where
@@ -43,6 +55,10 @@ longer xs ys = if nat_lt (length xs) (length ys) then ys else xs
 -- the other one
 abbrev pub shorter : {E : Type 0} → List E → List E → List E
 shorter xs ys = if nat_lt (length xs) (length ys) then xs else ys
+
+-- the root once a pass was joined: it has seen the longer of the two lists, and keeps the pass's number and entries
+abbrev pub with_joined : {E : Type 0} → Passed E → Passed E → Passed E
+with_joined root pass = record root { seen = longer root.seen pass.seen; out = root.out - 1; kept = root.kept ++ (pass.who, pass.mine) ∷ [] }
 
 -- what the pass has seen is a legal history, in which its own entries stand once and in order
 pub record IsSettled {E : Type 0} (replays : List E → Type 0) (maker : E → ℕ) (pass : Passed E) : Type 0 where

@@ -1,6 +1,6 @@
 ghost use Rattle.std.specs.Prelude.{◌≡◌, ℕ, ◌+◌, ◌-◌, ◌^◌, ◌<◌, ◌⊎◌, true, false, [], ◌∷◌, ◌++◌, length, drop, map, All, Contains, Some, None, IfOk, IfErr};
 ghost use mathlib.Core.List.{IsPrefix};
-ghost use Rattle.turn_gate.specs.Meaning.{IsSettled, IsTurnOf, longer, made_by};
+ghost use Rattle.turn_gate.specs.Meaning.{IsSettled, IsTurnOf, counted, made_by, new_pass, root_pass, with_joined};
 
 use crate::pass::{Pass, Turn};
 use crate::replayed::Replayed;
@@ -37,7 +37,7 @@ impl<S: Replayed> Gate<S> {
     pub fn new(alloc: Global, value: S) -> Result<(Gate<S>, Pass<S::Entry>), (OutOfMemory, S)>
         requires entries { S.entries value ≡ [] }
         ensures gate { IfOk result (λ r. r.0.first ≡ value) }
-        ensures pass { IfOk result (λ r. r.1 ≡ record { gate = r.0.name; who = 0; seen = []; mine = []; turn = None; root = true; out = 0; given = 0; kept = [] }) }
+        ensures pass { IfOk result (λ r. r.1 ≡ root_pass r.0.name) }
         ensures settled { IfOk result (λ r. IsSettled (S.replays (S.base value)) S.maker r.1) }
         ensures refused { IfErr result (λ r. r.1 ≡ value) }
     {
@@ -85,7 +85,7 @@ impl<S: Replayed> Gate<S> {
         requires turn { IsTurnOf turn.old pass.old }
         requires entry { (e : S.Entry) × (S.entries value.now ≡ turn.old.noted ++ e ∷ []) × (S.maker e ≡ pass.old.who) }
         requires count { length (S.entries value.now) < 2 ^ 64 }
-        ensures pass { pass.new ≡ record pass.old { mine = pass.old.mine ++ drop (length turn.old.noted) (S.entries value.now); turn = Some (S.entries value.now) } }
+        ensures pass { pass.new ≡ counted pass.old turn.old.noted (S.entries value.now) }
         ensures turn { turn.new ≡ record turn.old { noted = S.entries value.now } }
     {
         turns::count::<S, Brand>(self, pass, turn, value);
@@ -114,7 +114,7 @@ impl<S: Replayed> Gate<S> {
         requires root { root.old.root ≡ true }
         requires given { root.old.given < 2 ^ 32 - 1 }
         ensures root { root.new ≡ record root.old { out = root.old.out + 1; given = root.old.given + 1 } }
-        ensures pass { result ≡ record { gate = self.now.name; who = root.old.given + 1; seen = root.old.seen; mine = []; turn = None; root = false; out = 0; given = 0; kept = [] } }
+        ensures pass { result ≡ new_pass self.now.name (root.old.given + 1) root.old.seen }
         ensures settled { IsSettled (S.replays (S.base self.now.first)) S.maker result }
     {
         turns::part::<S, Brand>(self, root)
@@ -126,7 +126,7 @@ impl<S: Replayed> Gate<S> {
         requires gate { (root.old.gate ≡ self.now.name) × (pass.gate ≡ self.now.name) }
         requires root { (root.old.root ≡ true) × (pass.root ≡ false) }
         requires outside { (root.old.turn ≡ None) × (pass.turn ≡ None) }
-        ensures root { root.new ≡ record root.old { seen = longer root.old.seen pass.seen; out = root.old.out - 1; kept = root.old.kept ++ (pass.who, pass.mine) ∷ [] } }
+        ensures root { root.new ≡ with_joined root.old pass }
         ensures seen { IsPrefix root.old.seen root.new.seen × IsPrefix pass.seen root.new.seen }
         ensures settled { IsSettled (S.replays (S.base self.now.first)) S.maker root.new }
     {

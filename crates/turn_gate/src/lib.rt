@@ -8,8 +8,6 @@ mod gate;
 mod pass;
 mod replayed;
 mod rule;
-#[cfg(test)]
-mod tests;
 mod turns;
 mod view;
 

@@ -1,6 +1,6 @@
 ghost use Rattle.std.specs.Prelude.{◌≡◌, ℕ, ◌+◌, ◌-◌, ◌^◌, ◌<◌, true, false, [], ◌∷◌, ◌++◌, length, drop, Some, None, IfSome, IfNone};
 ghost use mathlib.Core.List.{IsPrefix};
-ghost use Rattle.turn_gate.specs.Meaning.{IsSettled, IsTurnOf, longer, made_by};
+ghost use Rattle.turn_gate.specs.Meaning.{IsSettled, IsTurnOf, counted, made_by, new_pass, with_joined};
 
 use crate::gate::Gate;
 use crate::pass::{Pass, Turn};
@@ -111,7 +111,7 @@ pub(crate) fn count<S: Replayed, M: More<S::Entry>>(
     requires turn { IsTurnOf turn.old pass.old }
     requires entry { (e : S.Entry) × (S.entries value.now ≡ turn.old.noted ++ e ∷ []) × (S.maker e ≡ pass.old.who) }
     requires count { length (S.entries value.now) < 2 ^ 64 }
-    ensures pass { pass.new ≡ record pass.old { mine = pass.old.mine ++ drop (length turn.old.noted) (S.entries value.now); turn = Some (S.entries value.now) } }
+    ensures pass { pass.new ≡ counted pass.old turn.old.noted (S.entries value.now) }
     ensures turn { turn.new ≡ record turn.old { noted = S.entries value.now } }
 {
     let _ = value;
@@ -159,7 +159,7 @@ pub(crate) fn part<S: Replayed, N: Named<S>>(
     requires root { root.old.root ≡ true }
     requires given { root.old.given < 2 ^ 32 - 1 }
     ensures root { root.new ≡ record root.old { out = root.old.out + 1; given = root.old.given + 1 } }
-    ensures pass { result ≡ record { gate = gate.now.name; who = root.old.given + 1; seen = root.old.seen; mine = []; turn = None; root = false; out = 0; given = 0; kept = [] } }
+    ensures pass { result ≡ new_pass gate.now.name (root.old.given + 1) root.old.seen }
     ensures settled { IsSettled (S.replays (S.base gate.now.first)) S.maker result }
 {
     let shared = &gate.table.shared;
@@ -185,7 +185,7 @@ pub(crate) fn merge<S: Replayed, N: Named<S>>(
     requires gate { (root.old.gate ≡ gate.now.name) × (pass.gate ≡ gate.now.name) }
     requires root { (root.old.root ≡ true) × (pass.root ≡ false) }
     requires outside { (root.old.turn ≡ None) × (pass.turn ≡ None) }
-    ensures root { root.new ≡ record root.old { seen = longer root.old.seen pass.seen; out = root.old.out - 1; kept = root.old.kept ++ (pass.who, pass.mine) ∷ [] } }
+    ensures root { root.new ≡ with_joined root.old pass }
     ensures seen { IsPrefix root.old.seen root.new.seen × IsPrefix pass.seen root.new.seen }
     ensures settled { IsSettled (S.replays (S.base gate.now.first)) S.maker root.new }
 {

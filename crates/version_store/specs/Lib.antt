@@ -2,3 +2,5 @@ pub mod Histories
 pub mod Store
 pub mod Sharing
 pub mod Underway
+pub mod Indexed
+pub mod Versioned

@@ -29,14 +29,18 @@ IsOwn pass = IsSettled IsLegal maker pass
 abbrev pub changed_by_last : List ℕ → List meaning.Edit → ℕ
 changed_by_last b edits = meaning.changed (meaning.classes b (take (length edits - 1) edits)) (meaning.classes b edits)
 
--- a call made one entry: what its pass had seen is followed by entries of others and by this one
-pub record MakesOne (what : What) (old new : Passed Entry) : Type 0 where
-  pub others : List Entry
-  pub seen : new.seen ≡ (old.seen ++ others) ++ (record { who = old.who; what = what }) ∷ []
-  pub pass : new ≡ record old { seen = new.seen; mine = old.mine ++ (record { who = old.who; what = what }) ∷ [] }
+-- a call made this entry: what its pass had seen is followed by entries of others and by this one
+pub record MakesEntry {E : Type 0} (entry : E) (old new : Passed E) : Type 0 where
+  pub others : List E
+  pub seen : new.seen ≡ (old.seen ++ others) ++ entry ∷ []
+  pub pass : new ≡ record old { seen = new.seen; mine = old.mine ++ entry ∷ [] }
+
+-- a call made one entry, by which its caller did this to the versions
+abbrev pub MakesOne : What → Passed Entry → Passed Entry → Type 0
+MakesOne what old new = MakesEntry (record { who = old.who; what = what }) old new
 
 -- a call made no entry: what its pass had seen is followed by entries of others
-pub record MakesNone (old new : Passed Entry) : Type 0 where
+pub record MakesNone {E : Type 0} (old new : Passed E) : Type 0 where
   pub seen : IsPrefix old.seen new.seen
   pub pass : new ≡ record old { seen = new.seen }
 
@@ -47,3 +51,11 @@ pub record IsAhead (b : List ℕ) (edits : List meaning.Edit) (edit : meaning.Ed
   pub size : length (arc_value ahead.classes) ≡ record_count b
   pub top : EachFits (format_of b) (arc_value ahead.classes)
   pub count : ahead.count ≡ meaning.changed (meaning.classes b edits) (meaning.classes b (edits ++ edit ∷ []))
+
+-- what was worked out before its turn holds if the version that it changes is still the newest
+abbrev pub IsAheadIfNewest : List ℕ → List meaning.Edit → meaning.Edit → Ahead → Type 0
+IsAheadIfNewest b edits edit ahead = length edits ≡ ahead.from → IsAhead b edits edit ahead
+
+-- what was worked out of the version with that number and these classes
+abbrev pub IsAheadOf : List ℕ → ℕ → List ℕ → meaning.Edit → Ahead → Type 0
+IsAheadOf b from classes edit ahead = (edits : List meaning.Edit) → from ≡ length edits → classes ≡ meaning.classes b edits → IsAhead b edits edit ahead

@@ -28,6 +28,10 @@ with_entry s who what = record { bytes = s.bytes; history = s.history ++ (record
 abbrev pub newest : Stored → List ℕ
 newest s = classes s.bytes (journal s.history)
 
+-- a caller's pin of the newest version, where these edits were published
+abbrev pub newest_pinned : ℕ → List ℕ → List Edit → Pinned
+newest_pinned who b edits = record { who = who; version = length edits; classes = classes b edits }
+
 -- whether it is this version
 abbrev pub is_version : ℕ → Held → Bool
 is_version v it = it.version == v

@@ -1,4 +1,4 @@
-ghost use Rattle.std.specs.Prelude.{◌≡◌, ◌+◌, ◌<◌, ◌≤◌, ◌++◌, ◌∷◌, [], vec_len, vec_capacity};
+ghost use Rattle.std.specs.Prelude.{◌≡◌, ◌+◌, ◌<◌, ◌≤◌, ◌^◌, ◌++◌, ◌∷◌, [], length, vec_len, vec_capacity};
 
 use edit_ops::Edit;
 use view_base::{Listing, Version};
@@ -30,6 +30,7 @@ pub type History = Listing<Entry>;
 pub(crate) fn append(history: &mut Vec<Entry>, who: u32, what: What)
     requires room { vec_len history.old < vec_capacity history.old }
     ensures items { history.new.items ≡ history.old.items ++ (record { who = who; what = what }) ∷ [] }
+    ensures few { length history.new.items < 2 ^ 64 }
     ensures len { vec_len history.new ≡ vec_len history.old + 1 }
     ensures capacity { vec_capacity history.old ≤ vec_capacity history.new }
 {

@@ -9,6 +9,7 @@ mod costs;
 mod held;
 mod history;
 mod indexed;
+mod over;
 mod pin;
 mod shared;
 #[cfg(test)]
@@ -16,11 +17,15 @@ mod shared_tests;
 mod store;
 #[cfg(test)]
 mod tests;
+mod versioned;
 
 pub use by_blocks::{chosen_by, edited_by};
 pub use costs::is_quicker_by_pages;
+pub use ahead::Ahead;
 pub use held::Held;
 pub use history::{Entry, History, What};
+pub use over::SharedOver;
 pub use pin::Pin;
 pub use shared::{Pass, Shared};
 pub use store::Store;
+pub use versioned::Versioned;

@@ -1,4 +1,4 @@
-ghost use Rattle.std.specs.Prelude.{◌≡◌, ◌≤◌, ◌++◌, ◌∷◌, [], length, map, All, IfOk, OnOk, OnErr};
+ghost use Rattle.std.specs.Prelude.{◌≡◌, ◌<◌, ◌≤◌, ◌^◌, ◌++◌, ◌∷◌, [], length, map, All, IfOk, OnOk, OnErr};
 ghost use Rattle.std.specs.Arc.{arc_value};
 ghost use Rattle.class_pages.specs.Fitting.{EachFits};
 ghost use Rattle.grid_blocks.specs.Blocks.{IsBlocks};
@@ -93,6 +93,7 @@ impl Store {
     pub fn publish(&mut self, who: u32, edit: &Edit) -> Result<(Version, u64), OutOfMemory>
         requires room { edit.now.to ≤ meaning.top_class (format_of self.old.bytes) }
         ensures published { OnOk result (self.new ≡ with_entry self.old who (what.Publish edit.now)) }
+        ensures few { OnOk result (length self.new.history < 2 ^ 64) }
         ensures version { IfOk result (λ made. made.0 ≡ length (journal self.new.history)) }
         ensures count { IfOk result (λ made. made.1 ≡ meaning.changed (newest self.old) (newest self.new)) }
         ensures refused { OnErr result (self.new ≡ self.old) }
@@ -114,6 +115,7 @@ impl Store {
         requires size { length (arc_value classes) ≡ record_count self.old.bytes }
         requires top { EachFits (format_of self.old.bytes) (arc_value classes) }
         ensures published { OnOk result (self.new ≡ with_entry self.old who (what.Publish edit.now)) }
+        ensures few { OnOk result (length self.new.history < 2 ^ 64) }
         ensures version { IfOk result (λ version. version ≡ length (journal self.new.history)) }
         ensures refused { OnErr result (self.new ≡ self.old) }
         ensures legal { IsLegal self.new.history }
@@ -139,6 +141,7 @@ impl Store {
     /// and leaves the store as it was.
     pub fn pin(&mut self, who: u32) -> Result<Pin, OutOfMemory>
         ensures pinned { OnOk result (self.new ≡ with_entry self.old who what.Pin) }
+        ensures few { OnOk result (length self.new.history < 2 ^ 64) }
         ensures pin { IfOk result (λ pin. pin ≡ record { who = who; version = length (journal self.old.history); classes = newest self.old }) }
         ensures size { IfOk result (λ pin. length pin.classes ≡ record_count self.old.bytes) }
         ensures top { IfOk result (λ pin. EachFits (format_of self.old.bytes) pin.classes) }
@@ -163,6 +166,7 @@ impl Store {
     /// newest one. The caller has pinned the version more often than given it back. Takes no memory.
     pub fn unpin(&mut self, who: u32, pin: Pin)
         requires pinned { HasPinned self.old.history who pin.version }
+        ensures few { length self.new.history < 2 ^ 64 }
         ensures unpinned { self.new ≡ with_entry self.old who (what.Unpin pin.version) }
         ensures legal { IsLegal self.new.history }
     {

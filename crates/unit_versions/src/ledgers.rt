@@ -1,4 +1,4 @@
-use crate::Pins;
+use pin_ledger::Pins;
 use std::process::Abort;
 use std::test::Fail;
 

@@ -1,5 +1,5 @@
 use Rattle.std.proofs.Common.{◌≡◌}
-use Rattle.turn_gate.proofs.tests.take_turns.Given as goal
+use Rattle.unit_versions.proofs.gates.take_turns.Given as goal
 
 abbrev pub invariant-loop-number : goal.invariant-loop-number
 invariant-loop-number g l = l.pass ≡ record l.fn.pass { seen = l.pass.seen; mine = l.pass.mine }

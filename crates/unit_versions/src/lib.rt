@@ -1,0 +1,10 @@
+//! Tests of the gate, of the ledger of pins and of the store of versions, by their public calls alone.
+//! Expected values come from the calls' contracts by hand.
+#![tactic(auto)]
+
+#[cfg(test)]
+mod gates;
+#[cfg(test)]
+mod ledgers;
+#[cfg(test)]
+mod tape;
