@@ -29,12 +29,16 @@ behind_class at None end red green blue = zeros (end - at)
 behind_class at (Some place) end red green blue =
     zeros (place - at) ++ to_le_bytes w16 red ++ to_le_bytes w16 green ++ to_le_bytes w16 blue ++ zeros (end - (place + 6))
 
+-- what stands behind the class of a record of a format, to its least length
+abbrev pub colour_part : ℕ → ℕ → ℕ → ℕ → List ℕ
+colour_part format red green blue = behind_class (class_place format + 1) (rgb_place format) (least_length format) red green blue
+
 -- the record of a format with this X, Y, Z, intensity and class: its red is the intensity, its green X and its
 -- blue Y, and all else is 0
 unfoldable pub record_bytes : ℕ → ℕ → ℕ → ℕ → ℕ → ℕ → List ℕ
 record_bytes format x y z intensity class =
     place_bytes x y z intensity ++ zeros (class_place format - 14) ++ (class ∷ [])
-    ++ behind_class (class_place format + 1) (rgb_place format) (least_length format) intensity x y
+    ++ colour_part format intensity x y
 
 -- record i: five draws give its X, Y, Z, intensity and class
 unfoldable pub made_record : ℕ → ℕ → ℕ → List ℕ

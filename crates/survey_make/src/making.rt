@@ -1,6 +1,7 @@
 ghost use Rattle.std.specs.Prelude.{◌≡◌, ◌≤◌, ◌+◌, ◌*◌, ◌++◌, ◌^◌, ◌%◌, ◌∷◌, [], codes, IfOk};
 ghost use Rattle.std.specs.Int.{to_le_bytes, w16, w32, w64};
 ghost use Rattle.std.specs.List.{range_with_len, flat_map};
+ghost use Rattle.survey_make.specs.declared.draws.TheConstants.{MULTIPLIER, INCREMENT};
 ghost use Rattle.survey_make.specs.Made.{draw, made, made_header, made_record, state, zeros};
 ghost use Rattle.view_meaning.specs.Layout.{least_length, IsLaid};
 
@@ -15,12 +16,14 @@ const HEADER: u16 = 375;
 
 /// The file of a survey of LAS 1.4 that is made of a number: so many records of a point data record
 /// format, of its least length, whose X and Y are below 65536, Z below 4096 and classes below 32.
-/// A refusal is want of memory.
+/// The numbers are drawn by the generator modulo 2^64 of MMIX (Knuth). A refusal is want of memory.
 pub fn make(alloc: Global, start: u64, records: u32, format: u8) -> Result<Bytes, OutOfMemory>
     requires format { format ≤ 10 }
     requires few { records ≤ 2 ^ 23 }
     ensures bytes { IfOk result (λ bytes. bytes.items ≡ made start records format) }
     ensures laid { IsLaid (made start records format) }
+    ensures factor { MULTIPLIER ≡ 6364136223846793005 }
+    ensures addend { INCREMENT ≡ 1442695040888963407 }
 {
     let length = usize::from(least_length(format));
     let mut bytes = Bytes::new(alloc);

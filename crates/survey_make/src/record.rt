@@ -1,6 +1,6 @@
 ghost use Rattle.std.specs.Prelude.{◌≡◌, ◌≤◌, ◌+◌, ◌++◌, ◌<◌};
-ghost use Rattle.survey_make.specs.Made.{behind_class, place_bytes, record_bytes};
-ghost use Rattle.view_meaning.specs.Survey.{class_place, rgb_place};
+ghost use Rattle.survey_make.specs.Made.{colour_part, place_bytes, record_bytes};
+ghost use Rattle.view_meaning.specs.Survey.{class_place};
 ghost use Rattle.view_meaning.specs.Layout.{least_length};
 
 use las_header::least_length;
@@ -49,7 +49,7 @@ impl Numbers {
     fn append_colour(&self, format: u8, bytes: &mut Bytes)
         requires format { format ≤ 10 }
         requires room { least_length format ≤ bytes.old.spare + class_place format + 1 }
-        ensures appended { bytes.new.items ≡ bytes.old.items ++ behind_class (class_place format + 1) (rgb_place format) (least_length format) self.now.intensity self.now.x self.now.y }
+        ensures appended { bytes.new.items ≡ bytes.old.items ++ colour_part format self.now.intensity self.now.x self.now.y }
         ensures spare { bytes.old.spare + class_place format + 1 ≤ bytes.new.spare + least_length format }
     {
         let at = class_place(format) + 1;

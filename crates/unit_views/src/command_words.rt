@@ -1,5 +1,6 @@
 use int_camera::CameraLimit;
 use std::alloc::{AllocError, Global};
+use std::process::Abort;
 use view_text::TextFault;
 use view_words::{Row, pair_count, read_draw, read_row, records, row_of, start, text_at, workers};
 
@@ -23,10 +24,14 @@ fn refused(words: &[String]) -> Option<u32> {
     }
 }
 
+/// The first refused word of a line stands at this place.
+fn is_refused(rt: &impl Abort, alloc: Global, line: &str, at: u32) {
+    let words = words(alloc, line).expect(rt, "memory for words");
+    assert_eq!(rt; refused(&words), Some(at));
+}
+
 #[test]
-fn the_first_refused_word_or_the_number_of_words_is_named(
-    rt: HostRuntime,
-) -> Result<(), AllocError> {
+fn the_first_refused_word_or_the_number_of_words_is_named(rt: HostRuntime) {
     for (line, at) in [
         ("", 0),
         ("paint a b", 0),
@@ -74,14 +79,19 @@ fn the_first_refused_word_or_the_number_of_words_is_named(
             36,
         ),
     ] {
-        let words = words(rt.alloc(), line)?;
-        assert_eq!(rt; refused(&words), Some(at));
+        is_refused(&rt, rt.alloc(), line, at);
     }
-    Ok(())
+}
+
+/// A line fits the row that its command names.
+fn fits(rt: &impl Abort, alloc: Global, line: &str, row: Row) {
+    let words = words(alloc, line).expect(rt, "memory for words");
+    assert_eq!(rt; row_of(&words), Some(row));
+    assert!(rt; read_row(row, &words).is_ok());
 }
 
 #[test]
-fn words_that_fit_name_their_row(rt: HostRuntime) -> Result<(), AllocError> {
+fn words_that_fit_name_their_row(rt: HostRuntime) {
     for (line, row) in [
         (
             "draw - - 064 persp 1 1 0 0 0 1 0 0 0 1 0 0 0 1 1 1 0 10 rgb8 3,1-2 hide",
@@ -96,39 +106,43 @@ fn words_that_fit_name_their_row(rt: HostRuntime) -> Result<(), AllocError> {
             Row::Serve,
         ),
     ] {
-        let words = words(rt.alloc(), line)?;
-        assert_eq!(rt; row_of(&words), Some(row));
-        assert!(rt; read_row(row, &words).is_ok());
+        fits(&rt, rt.alloc(), line, row);
     }
-    Ok(())
 }
 
 #[test]
-fn a_row_takes_its_own_command_alone(rt: HostRuntime) -> Result<(), AllocError> {
-    let words = words(rt.alloc(), "info a b")?;
+fn a_row_takes_its_own_command_alone(rt: HostRuntime) {
+    let words = words(rt.alloc(), "info a b").expect(&rt, "memory for words");
     assert_eq!(rt; read_row(Row::Draw, &words).err(), Some(0));
     assert_eq!(rt; read_row(Row::Trial, &words).err(), Some(0));
-    Ok(())
+}
+
+/// The words of a trial say this.
+fn tells(rt: &impl Abort, trial: &[String]) {
+    assert!(rt; read_row(Row::Trial, trial).is_ok());
+    assert_eq!(rt; start(trial), u64::MAX);
+    assert_eq!(rt; records(trial), 8);
+    assert_eq!(rt; workers(Row::Trial, trial), 64);
+    assert_eq!(rt; text_at(trial, 4), "t");
 }
 
 #[test]
-fn the_words_of_a_trial_are_told(rt: HostRuntime) -> Result<(), AllocError> {
-    let trial = words(rt.alloc(), "trial 18446744073709551615 0008 064 t")?;
-    assert!(rt; read_row(Row::Trial, &trial).is_ok());
-    assert_eq!(rt; start(&trial), u64::MAX);
-    assert_eq!(rt; records(&trial), 8);
-    assert_eq!(rt; workers(Row::Trial, &trial), 64);
-    assert_eq!(rt; text_at(&trial, 4), "t");
-    Ok(())
+fn the_words_of_a_trial_are_told(rt: HostRuntime) {
+    let trial = words(rt.alloc(), "trial 18446744073709551615 0008 064 t");
+    tells(&rt, &trial.expect(&rt, "memory for words"));
+}
+
+/// The words of a serve have three workers and two pairs.
+fn has_two_pairs(rt: &impl Abort, serve: &[String]) {
+    assert!(rt; read_row(Row::Serve, serve).is_ok());
+    assert_eq!(rt; workers(Row::Serve, serve), 3);
+    assert_eq!(rt; pair_count(serve), 2);
 }
 
 #[test]
-fn the_pairs_of_a_serve_are_counted(rt: HostRuntime) -> Result<(), AllocError> {
-    let serve = words(rt.alloc(), "serve a 3 j i o p q")?;
-    assert!(rt; read_row(Row::Serve, &serve).is_ok());
-    assert_eq!(rt; workers(Row::Serve, &serve), 3);
-    assert_eq!(rt; pair_count(&serve), 2);
-    Ok(())
+fn the_pairs_of_a_serve_are_counted(rt: HostRuntime) {
+    let serve = words(rt.alloc(), "serve a 3 j i o p q");
+    has_two_pairs(&rt, &serve.expect(&rt, "memory for words"));
 }
 
 /// The width of the picture that a `draw` asks for, or why it asks for none.
@@ -144,8 +158,14 @@ fn limit(place: u8, value: i128) -> Result<u32, TextFault> {
     Err(TextFault::Limit(CameraLimit { place, value }))
 }
 
+/// The words of a line ask for this as those of a `draw`.
+fn asks(rt: &impl Abort, alloc: Global, line: &str, wanted: Result<u32, TextFault>) {
+    let words = words(alloc, line).expect(rt, "memory for words");
+    assert_eq!(rt; told(&words), wanted);
+}
+
 #[test]
-fn the_view_of_a_draw_is_told(rt: HostRuntime) -> Result<(), AllocError> {
+fn the_view_of_a_draw_is_told(rt: HostRuntime) {
     for (line, wanted) in [
         (
             "draw a b 1 persp 3 2 0 0 0 1 0 0 0 1 0 0 0 1 1048576 1 1 10 rgb8 0-255 hide",
@@ -161,8 +181,6 @@ fn the_view_of_a_draw_is_told(rt: HostRuntime) -> Result<(), AllocError> {
         ),
         ("info a b", Err(TextFault::Line { at: 0 })),
     ] {
-        let words = words(rt.alloc(), line)?;
-        assert_eq!(rt; told(&words), wanted);
+        asks(&rt, rt.alloc(), line, wanted);
     }
-    Ok(())
 }

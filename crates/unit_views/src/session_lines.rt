@@ -1,9 +1,8 @@
 ghost use Rattle.std.specs.Prelude.{◌≤◌};
 
-
 use int_camera::CameraLimit;
 use std::process::Abort;
-use view_lines::{Command, Refusal, read_command};
+use view_lines::{Command, Holding, Refusal, read_command, read_holding};
 
 /// What a line for a survey of this format asks for: the width of a picture, the class of an edit,
 /// 1000 for a count of records that are not withheld and 1001 for one of all, and 0 for a save; or
@@ -108,4 +107,26 @@ fn a_camera_number_out_of_its_range_is_named(rt: HostRuntime) {
         value: 1048577,
     };
     assert_eq!(rt; read_command(wide, 0).err(), Some(Refusal::Limit(limit)));
+}
+
+#[test]
+fn a_line_that_holds_or_releases_is_one_word_and_no_command_yet(rt: HostRuntime) {
+    for (line, wanted) in [
+        (b"hold".as_slice(), Some(Holding::Hold)),
+        (b"\trelease ".as_slice(), Some(Holding::Release)),
+        (b"hold 1".as_slice(), None),
+        (b"release release".as_slice(), None),
+        (b"Hold".as_slice(), None),
+        (b"holds".as_slice(), None),
+        (b" ".as_slice(), None),
+    ] {
+        assert_eq!(rt; read_holding(line), wanted);
+        is_told(&rt, line, 0, Err(1));
+    }
+}
+
+#[test]
+fn what_a_session_holds_is_refused_by_codes_of_its_own(rt: HostRuntime) {
+    assert_eq!(rt; Refusal::AlreadyHeld.code(), 5);
+    assert_eq!(rt; Refusal::NotHeld.code(), 6);
 }

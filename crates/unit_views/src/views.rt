@@ -148,6 +148,7 @@ fn a_filter_is_a_class_list_and_what_becomes_of_withheld_records(rt: HostRuntime
     }
 }
 
+/// The words of a line that commas part.
 fn separate(alloc: Global, line: &str) -> Result<Vec<String>, AllocError> {
     let mut words = Vec::new(alloc);
     for word in line.split(',') {
@@ -156,8 +157,14 @@ fn separate(alloc: Global, line: &str) -> Result<Vec<String>, AllocError> {
     Ok(words)
 }
 
+/// The words that commas part say this of a view's picture.
+fn separate_are(rt: &impl Abort, alloc: Global, line: &str, wanted: Result<u32, u32>) {
+    let words = separate(alloc, line).expect(rt, "memory for words");
+    assert_eq!(rt; width_of(read_view_from(WordsOf::Separate(&words))), wanted);
+}
+
 #[test]
-fn separate_words_may_be_empty_or_hold_blanks(rt: HostRuntime) -> Result<(), AllocError> {
+fn separate_words_may_be_empty_or_hold_blanks(rt: HostRuntime) {
     for (line, wanted) in [
         (
             "ortho,3,1,0,0,0,1,0,0,0,1,0,0,0,1,1,1,0,10,class,all,show",
@@ -176,8 +183,6 @@ fn separate_words_may_be_empty_or_hold_blanks(rt: HostRuntime) -> Result<(), All
             Err(22),
         ),
     ] {
-        let words = separate(rt.alloc(), line)?;
-        assert_eq!(rt; width_of(read_view_from(WordsOf::Separate(&words))), wanted);
+        separate_are(&rt, rt.alloc(), line, wanted);
     }
-    Ok(())
 }
