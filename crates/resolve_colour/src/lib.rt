@@ -5,6 +5,7 @@
 mod paint;
 mod pixels;
 mod record;
+mod records;
 mod words;
 
 pub use las_points::can_colour;

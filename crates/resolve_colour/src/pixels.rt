@@ -1,12 +1,13 @@
 ghost use Rattle.std.specs.Prelude.{◌≡◌, ◌*◌, ◌-◌, ◌<◌, ◌≤◌, ◌++◌, All, length, take, drop, replicate, true};
 ghost use Rattle.std.specs.List.{flat_map};
 ghost use Rattle.std.specs.Thread.{IsSync};
-ghost use Rattle.resolve_colour.specs.Names.{IsPaintable, NamesOne, part};
+ghost use Rattle.resolve_colour.specs.Names.{IsPaintable, NamesOne, part_colours};
 ghost use Rattle.view_meaning.specs.Frame.{word_colour};
 ghost use Rattle.view_meaning.specs.Picture.{can_colour};
 ghost use Rattle.view_meaning.specs.Survey.{record_count, format_of};
 
 use crate::paint::{ByClass, ByIntensity, ByRgb8, ByRgb16, Paint};
+use crate::records::Records;
 use crate::words::PixelWords;
 use class_pages::Classes;
 use las_survey::Survey;
@@ -77,7 +78,8 @@ fn append_colours<R: Threads + Sync, W: PixelWords + Sync, P: Paint + Sync>(
     let from = out.len();
     out.extend_by(3 * pixels, 0);
     let colours = out.tail_mut(from);
-    colour_side_by_side::<R, W, P>(rt, workers, words, 0, pixels, survey, classes, colours);
+    let records = Records { survey, classes };
+    colour_side_by_side::<R, W, P>(rt, workers, words, 0, pixels, &records, colours);
 }
 
 /// Writes over black the three bytes of each of these words from `first` to before `end`, by workers side by side,
@@ -89,15 +91,14 @@ fn colour_side_by_side<R: Threads + Sync, W: PixelWords + Sync, P: Paint + Sync>
     words: &W,
     first: usize,
     end: usize,
-    survey: &Survey,
-    classes: &Classes,
+    records: &Records,
     colours: &mut [u8],
 )
-    requires { IsPaintable survey.now classes.now P.colouring (W.words words.now) first end colours.old }
-    ensures { colours.new ≡ flat_map (word_colour survey.now classes.now P.colouring) (part first end (W.words words.now)) }
+    requires { IsPaintable records.now P.colouring (W.words words.now) first end colours.old }
+    ensures { colours.new ≡ part_colours records.now P.colouring (W.words words.now) first end }
 {
     if workers < 2 || end - first < SHARED {
-        colour_pixels::<W, P>(colours, words, first, end, survey, classes);
+        colour_pixels::<W, P>(colours, words, first, end, records);
         return;
     }
     let front_workers = workers / 2;
@@ -109,36 +110,14 @@ fn colour_side_by_side<R: Threads + Sync, W: PixelWords + Sync, P: Paint + Sync>
         rt,
         &mut ||
             requires { IsSync R.row × IsSync W.row × IsSync P.row
-                × IsPaintable survey.now classes.now P.colouring (W.words words.now) first middle front.now }
-            ensures { front.exit.now ≡ flat_map (word_colour survey.entry.now classes.entry.now P.colouring) (part first middle (W.words words.entry.now)) }
-        {
-            colour_side_by_side::<R, W, P>(
-                rt,
-                front_workers,
-                words,
-                first,
-                middle,
-                survey,
-                classes,
-                front,
-            )
-        },
+                × IsPaintable records.now P.colouring (W.words words.now) first middle front.now }
+            ensures { front.exit.now ≡ part_colours records.entry.now P.colouring (W.words words.entry.now) first middle }
+        { colour_side_by_side::<R, W, P>(rt, front_workers, words, first, middle, records, front) },
         &mut ||
             requires { IsSync R.row × IsSync W.row × IsSync P.row
-                × IsPaintable survey.now classes.now P.colouring (W.words words.now) middle end back.now }
-            ensures { back.exit.now ≡ flat_map (word_colour survey.entry.now classes.entry.now P.colouring) (part middle end (W.words words.entry.now)) }
-        {
-            colour_side_by_side::<R, W, P>(
-                rt,
-                back_workers,
-                words,
-                middle,
-                end,
-                survey,
-                classes,
-                back,
-            )
-        },
+                × IsPaintable records.now P.colouring (W.words words.now) middle end back.now }
+            ensures { back.exit.now ≡ part_colours records.entry.now P.colouring (W.words words.entry.now) middle end }
+        { colour_side_by_side::<R, W, P>(rt, back_workers, words, middle, end, records, back) },
     );
 }
 
@@ -156,12 +135,12 @@ fn colour_pixels<W: PixelWords, P: Paint>(
     words: &W,
     first: usize,
     end: usize,
-    survey: &Survey,
-    classes: &Classes,
+    records: &Records,
 )
-    requires { IsPaintable survey.now classes.now P.colouring (W.words words.now) first end colours.old }
-    ensures { colours.new ≡ flat_map (word_colour survey.now classes.now P.colouring) (part first end (W.words words.now)) }
+    requires { IsPaintable records.now P.colouring (W.words words.now) first end colours.old }
+    ensures { colours.new ≡ part_colours records.now P.colouring (W.words words.now) first end }
 {
+    let Records { survey, classes } = *records;
     for pixel in 0..end - first {
         let place = 3 * pixel;
         paint_over::<P>(

@@ -54,6 +54,11 @@ fn survey(
     loaded(alloc, bytes)
 }
 
+/// The survey of that record in format 2.
+pub(crate) fn one_record(alloc: Global) -> Result<Survey, Fail> {
+    survey(alloc, 2, 26, &SECOND, &[])
+}
+
 /// The bytes of a pixel without a record and of one with record 0 at depth 5.
 fn two_pixels<R: Threads + Sync>(
     rt: &R,
@@ -112,7 +117,7 @@ fn shows_by_each<R: Abort + Threads + Sync>(
 
 #[test]
 fn a_record_shows_by_each_colouring(rt: HostRuntime) -> Result<(), Fail> {
-    let survey = survey(rt.alloc(), 2, 26, &SECOND, &[])?;
+    let survey = one_record(rt.alloc())?;
     shows_by_each(&rt, rt.alloc(), &survey)?;
     Ok(())
 }
@@ -151,7 +156,7 @@ fn a_record_shows_by_its_own_number(rt: HostRuntime) -> Result<(), Fail> {
 }
 
 /// A row of 4500 pixels without a record and 4501 with record 0.
-fn fill_row(words: &mut Words)
+pub(crate) fn fill_row(words: &mut Words)
     requires none { words.old.items ≡ [] }
     requires room { 9001 ≤ words.old.spare }
     ensures names { All (NamesOne 1) words.new.items }
@@ -213,7 +218,7 @@ fn same_by_all<R: Abort + Threads + Sync>(
 
 #[test]
 fn a_row_is_the_same_by_each_number_of_workers(rt: HostRuntime) -> Result<(), Fail> {
-    let survey = survey(rt.alloc(), 2, 26, &SECOND, &[])?;
+    let survey = one_record(rt.alloc())?;
     let classes = base(rt.alloc(), &survey)?;
     same_by_all(&rt, rt.alloc(), &survey, &classes)?;
     Ok(())

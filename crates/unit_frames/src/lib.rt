@@ -11,6 +11,8 @@ mod frames;
 #[cfg(test)]
 mod meeting;
 #[cfg(test)]
+mod painting;
+#[cfg(test)]
 mod pieces;
 #[cfg(test)]
 mod surveys;
