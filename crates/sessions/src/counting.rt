@@ -64,7 +64,8 @@ fn count_side_by_side<R: Threads + Sync>(
             ensures { (result ≡ count_by (passes survey.entry.now classes.entry.now filter.entry.now) (range_with_len first half)) × (result ≤ half) }
         { count_side_by_side(rt, front_workers, survey, classes, filter, first, half) },
         &mut ||
-            requires { IsSync R.row × (length classes.now ≡ record_count survey.now) × (first + half + rest ≤ record_count survey.now) × (first + half + rest < 2 ^ 32) }
+            requires { IsSync R.row × (length classes.now ≡ record_count survey.now)
+                × (first + half + rest ≤ record_count survey.now) × (first + half + rest < 2 ^ 32) }
             ensures { (result ≡ count_by (passes survey.entry.now classes.entry.now filter.entry.now) (range_with_len (first + half) rest)) × (result ≤ rest) }
         {
             count_side_by_side(

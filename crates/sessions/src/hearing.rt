@@ -1,12 +1,10 @@
-ghost use Rattle.std.specs.Prelude.{◌≡◌, ◌++◌, [], List, ℕ, OnOk, OnErr, is_ok};
-ghost use Rattle.std.specs.Arc.{arc_value};
-ghost use Rattle.view_meaning.specs.Survey.{format_of};
+ghost use Rattle.std.specs.Prelude.{◌≡◌, [], List, ℕ, OnOk, OnErr, is_ok};
 ghost use Rattle.std.specs.List.{position};
-ghost use Rattle.sessions.specs.Session.{is_lf, commands, whole, items_of};
-ghost use Rattle.sessions.specs.Talk.{Start, IsReady, IsAnswering, AnsweredAll, GaveUp, talk_of};
-ghost use Rattle.sessions.specs.Hearing.{HasHeard, IsPending};
+ghost use Rattle.sessions.specs.Session.{is_lf, items_of};
+ghost use Rattle.sessions.specs.Talk.{IsReady, AnsweredAll, talk_of};
+ghost use Rattle.sessions.specs.Hearing.{AnswersAll, GivesUp, GivesUpAll, Hears, HearsMore, IsPending, moment};
 ghost use Rattle.sessions.specs.Giving.{Gave};
-ghost use Rattle.sessions.specs.Worlds.{IsWorld};
+ghost use Rattle.sessions.specs.Worlds.{IsWorld, survey_of, world_format};
 
 use crate::answering::{answer_line, answer_refusal};
 use crate::end::Marks;
@@ -33,9 +31,11 @@ pub(crate) fn hear<R: Threads + Wait + Sync, O: Sink, B: Beside>(
 ) -> Result<(), EndFault>
     requires world { IsWorld world.now }
     requires ready { IsReady world.now.shared.name pass.old }
-    requires heard { (t : List ℕ) × (start : Start) × HasHeard (arc_value world.now.scene.survey) t (talk_of pass.old marks.old) pending.old start (O.got sink.old) }
-    ensures heard { OnOk result ((t : List ℕ) → (start : Start) → HasHeard (arc_value world.now.scene.survey) t (talk_of pass.old marks.old) pending.old start (O.got sink.old) → HasHeard (arc_value world.now.scene.survey) (t ++ piece.now) (talk_of pass.new marks.new) pending.new start (O.got sink.new)) }
-    ensures gave_up { OnErr result ((t : List ℕ) → (start : Start) → HasHeard (arc_value world.now.scene.survey) t (talk_of pass.old marks.old) pending.old start (O.got sink.old) → GaveUp (arc_value world.now.scene.survey) (commands (format_of (arc_value world.now.scene.survey)) (t ++ piece.now)) (talk_of pass.new marks.new) start (O.got sink.new)) }
+    requires heard { Hears (survey_of world.now) (moment pass.old marks.old pending.old (O.got sink.old)) }
+    ensures heard { OnOk result (HearsMore (survey_of world.now) piece.now (moment pass.old marks.old pending.old (O.got sink.old))
+        (moment pass.new marks.new pending.new (O.got sink.new))) }
+    ensures gave_up { OnErr result (GivesUp (survey_of world.now) piece.now (moment pass.old marks.old pending.old (O.got sink.old))
+        (moment pass.new marks.new pending.new (O.got sink.new))) }
     ensures ready { IsReady world.now.shared.name pass.new }
     ensures gave { Gave (O.faults sink.old) (O.faults sink.new) result }
 {
@@ -70,7 +70,8 @@ fn answer_pending<R: Threads + Wait + Sync, O: Sink, B: Beside>(
     requires world { IsWorld world.now }
     requires ready { IsReady world.now.shared.name pass.old }
     requires pending { (line : List ℕ) × IsPending pending.old line }
-    ensures answered { (line : List ℕ) → IsPending pending.old line → AnsweredAll (arc_value world.now.scene.survey) (talk_of pass.old marks.old) (talk_of pass.new marks.new) (items_of (format_of (arc_value world.now.scene.survey)) line) (O.got sink.old) (O.got sink.new) (is_ok result) }
+    ensures answered { (line : List ℕ) → IsPending pending.old line → AnsweredAll (survey_of world.now) (talk_of pass.old marks.old)
+        (talk_of pass.new marks.new) (items_of (world_format world.now) line) (O.got sink.old) (O.got sink.new) (is_ok result) }
     ensures cleared { OnOk result (IsPending pending.new []) }
     ensures ready { IsReady world.now.shared.name pass.new }
     ensures gave { Gave (O.faults sink.old) (O.faults sink.new) result }
@@ -106,9 +107,11 @@ pub(crate) fn hear_end<R: Threads + Wait + Sync, O: Sink, B: Beside>(
 ) -> Result<(), EndFault>
     requires world { IsWorld world.now }
     requires ready { IsReady world.now.shared.name pass.old }
-    requires heard { (t : List ℕ) × (start : Start) × HasHeard (arc_value world.now.scene.survey) t (talk_of pass.old marks.old) pending.old start (O.got sink.old) }
-    ensures heard { OnOk result ((t : List ℕ) → (start : Start) → HasHeard (arc_value world.now.scene.survey) t (talk_of pass.old marks.old) pending.old start (O.got sink.old) → IsAnswering (arc_value world.now.scene.survey) (whole (format_of (arc_value world.now.scene.survey)) t) (talk_of pass.new marks.new) start (O.got sink.new)) }
-    ensures gave_up { OnErr result ((t : List ℕ) → (start : Start) → HasHeard (arc_value world.now.scene.survey) t (talk_of pass.old marks.old) pending.old start (O.got sink.old) → GaveUp (arc_value world.now.scene.survey) (whole (format_of (arc_value world.now.scene.survey)) t) (talk_of pass.new marks.new) start (O.got sink.new)) }
+    requires heard { Hears (survey_of world.now) (moment pass.old marks.old pending.old (O.got sink.old)) }
+    ensures heard { OnOk result (AnswersAll (survey_of world.now) (moment pass.old marks.old pending.old (O.got sink.old))
+        (moment pass.new marks.new pending.new (O.got sink.new))) }
+    ensures gave_up { OnErr result (GivesUpAll (survey_of world.now) (moment pass.old marks.old pending.old (O.got sink.old))
+        (moment pass.new marks.new pending.new (O.got sink.new))) }
     ensures ready { IsReady world.now.shared.name pass.new }
     ensures gave { Gave (O.faults sink.old) (O.faults sink.new) result }
 {

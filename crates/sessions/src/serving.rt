@@ -1,12 +1,12 @@
-ghost use Rattle.std.specs.Prelude.{◌≡◌, ◌+◌, [], None};
-ghost use Rattle.std.specs.Arc.{arc_value};
+ghost use Rattle.std.specs.Prelude.{◌≡◌, ◌+◌, ◌^◌, [], None};
 ghost use Rattle.version_store.specs.Sharing.{IsOwn};
 ghost use Rattle.sessions.specs.Hearing.{HasHeard};
 ghost use Rattle.sessions.specs.Listening.{Listened, Read, Wrote, reason_of};
 ghost use Rattle.sessions.specs.Session.{Served};
 ghost use Rattle.sessions.specs.Talk.{IsReady, talk_of};
-ghost use Rattle.sessions.specs.Worlds.{IsWorld, HasGivenBack};
+ghost use Rattle.sessions.specs.Worlds.{IsWorld, HasGivenBack, survey_of};
 ghost use Rattle.sessions.specs.declared.end.Reason.TheVariants.{Memory};
+ghost use Rattle.sessions.specs.declared.pending.TheConstants.{LINE};
 
 use crate::end::{Marks, Reason, SessionEnd};
 use crate::hearing::{hear, hear_end};
@@ -45,7 +45,7 @@ pub fn serve_session<R: Threads + Wait + Sync, I: Source, O: Sink, B: Beside>(
     requires outside { pass.old.turn ≡ None }
     requires own { IsOwn pass.old }
     requires given_back { HasGivenBack pass.old.seen pass.old.who }
-    ensures served { Served (arc_value world.now.scene.survey) pass.old.seen pass.new.seen pass.old.who
+    ensures served { Served (survey_of world.now) pass.old.seen pass.new.seen pass.old.who
         (I.left source.old) (O.got sink.old) (O.got sink.new) result.marks.items result.reason result.taken }
     ensures own { IsOwn pass.new }
     ensures pass { pass.new ≡ record pass.old { seen = pass.new.seen; mine = pass.new.mine } }
@@ -53,6 +53,8 @@ pub fn serve_session<R: Threads + Wait + Sync, I: Source, O: Sink, B: Beside>(
     ensures taken { I.taken source.new ≡ I.taken source.old + result.taken }
     ensures reads { Read (I.faults source.old) (I.faults source.new) result.reason }
     ensures writes { Wrote (O.faults sink.old) (O.faults sink.new) result.reason }
+    ensures line { LINE ≡ 4096 }
+    ensures limit { INPUT_LIMIT ≡ 2 ^ 20 }
 {
     let Ok(mut pending) = Pending::new(alloc) else {
         return memory_end(alloc);
@@ -104,9 +106,11 @@ fn listen<R: Threads + Wait + Sync, I: Source, O: Sink, B: Beside>(
 ) -> (Reason, u64)
     requires world { IsWorld world.now }
     requires ready { IsReady world.now.shared.name pass.old }
-    requires heard { HasHeard (arc_value world.now.scene.survey) [] (talk_of pass.old marks.old) pending.old (record { pass = pass.old; got = O.got sink.old }) (O.got sink.old) }
+    requires heard { HasHeard (survey_of world.now) [] (talk_of pass.old marks.old) pending.old
+        (record { pass = pass.old; got = O.got sink.old }) (O.got sink.old) }
     ensures ready { IsReady world.now.shared.name pass.new }
-    ensures listened { Listened (arc_value world.now.scene.survey) (talk_of pass.new marks.new) (record { pass = pass.old; got = O.got sink.old }) (I.left source.old) (O.got sink.new) result.0 result.1 }
+    ensures listened { Listened (survey_of world.now) (talk_of pass.new marks.new) (record { pass = pass.old; got = O.got sink.old })
+        (I.left source.old) (O.got sink.new) result.0 result.1 }
     ensures taken { I.taken source.new ≡ I.taken source.old + result.1 }
     ensures reads { Read (I.faults source.old) (I.faults source.new) result.0 }
     ensures writes { Wrote (O.faults sink.old) (O.faults sink.new) result.0 }
