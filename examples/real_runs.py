@@ -12,6 +12,8 @@ import time
 
 ROOT = os.path.dirname(os.path.dirname(os.path.realpath(__file__)))
 PROGRAM = os.path.join(ROOT, "hidrevca")
+# What the launcher runs, for cases by the hundred.
+BUILT = os.path.join(ROOT, "crates", "view_main", "out", "view_main")
 
 # The words behind SURVEY and OUT: one pixel at the origin that looks along Z, by class.
 CAMERA = "1 ortho 1 1 0 0 0 1 0 0 0 1 0 0 0 1 1 1 0 10 class all show".split()
@@ -95,15 +97,15 @@ def feed(pipe, data):
         pipe.close()
 
 
-def run(folder, words, stdin, stdout, handed):
+def run(folder, words, stdin, stdout=None, handed=(), program=PROGRAM):
     """Runs the program with these opened files, and gives its status and what it printed."""
     if isinstance(stdin, str):
         with open(os.path.join(folder, stdin), "rb") as source:
-            done = subprocess.run([PROGRAM, *words], cwd=folder, stdin=source, capture_output=True)
+            done = subprocess.run([program, *words], cwd=folder, stdin=source, capture_output=True)
         return done.returncode, done.stdout, done.stderr
     sink = open(stdout, "wb") if stdout else subprocess.PIPE
     child = subprocess.Popen(
-        [PROGRAM, *words], cwd=folder, stdin=subprocess.PIPE, stdout=sink, stderr=subprocess.PIPE, pass_fds=handed
+        [program, *words], cwd=folder, stdin=subprocess.PIPE, stdout=sink, stderr=subprocess.PIPE, pass_fds=handed
     )
     feeder = threading.Thread(target=feed, args=(child.stdin, stdin))
     feeder.start()
@@ -115,7 +117,7 @@ def run(folder, words, stdin, stdout, handed):
     return child.returncode, out or b"", err
 
 
-def case(name, words, files, status=0, text="", after=None, out=b"", stdin=b"", stdout=None, links=(), handed=()):
+def case(name, words, files, status=0, text="", after=None, out=b"", stdin=b"", links=(), **how):
     """One run over these files and links. Files that `after` doesn't name have to stay."""
     with tempfile.TemporaryDirectory() as folder:
         for file, data in files.items():
@@ -123,7 +125,7 @@ def case(name, words, files, status=0, text="", after=None, out=b"", stdin=b"", 
                 made.write(data)
         for make, target, link in links:
             make(target if make is os.symlink else os.path.join(folder, target), os.path.join(folder, link))
-        got, printed, told = run(folder, words, stdin, stdout, handed)
+        got, printed, told = run(folder, words, stdin, **how)
         line = text.encode() + b"\n" if text else b""
         # The launcher may say afterwards what the word is, which examples/test_launcher.py compares.
         more = told[len(line) :] if status else b""
