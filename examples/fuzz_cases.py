@@ -11,7 +11,7 @@ import lots
 from model import Node, ROWS, bad_word, plain
 from session_lines import GREATEST, LEAST, MOST_BYTES
 
-OLD = (b"", b"as it was", b"P6\n1 1\n255\n", b"\xa5" * 3000)
+OLD = (b"", b"as it was", b"P6\n1 1\n255\n", b"\xa5" * 3000) * 3 + (b"LASF of another survey",)
 # Words that don't fit where most do, or only just.
 ODD = ("", "-", "--", "0", "-0", "1", "007", "64", "65", "+1", "1.5", "1e3", " 1", "1 ", "1\n", "x", "all", "ALL", "256", "5-3", "3,,4", "0-255",
        "show", "hide", "class", "rgb16", "persp", "ortho", "draw", "serve", "info", "trial", "a", "./a", "none", "none/x", "folder", ".", "\u00e9",

@@ -215,12 +215,12 @@ class Desk:
         return node
 
     def write(self, words, at):
-        """Opens a name to write: a file keeps what it holds until it gets something or is ended."""
+        """Opens a name to write: a file keeps what it holds until it gets something or is ended, and a survey is spared."""
         name = plain(words[at])
         node = self.stdout if words[at] == "-" else self.nodes.get(name)
         if node is None and "/" not in name:
             node = self.nodes[name] = Node("file")
-        if node is None or node.kind == "folder" or node in self.opened:
+        if node is None or node.kind == "folder" or node in self.opened or node.kind == "file" and node.data[:4] == b"LASF":
             raise Ends(5, f"cannot open word {at}")
         if node.kind == "file":
             self.opened.append(node)

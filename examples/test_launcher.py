@@ -120,7 +120,9 @@ class Passing(Launcher):
             " < /proc/$$/status"
         )
         for prepare in (default_signals, ignore):
-            alone = self.end(WRONG, does, command=self.program, prepare=prepare)
+            # The launcher lets no limit on the length of files end the program.
+            limited = lambda prepare=prepare: (prepare(), signal.signal(signal.SIGXFSZ, signal.SIG_IGN))
+            alone = self.end(WRONG, does, command=self.program, prepare=limited)
             for words in (RIGHT, WRONG):
                 self.assertEqual(self.end(words, does, prepare=prepare), alone)
 
@@ -284,6 +286,9 @@ class Words(Launcher):
     def test_a_file_that_can_not_be_opened_or_read(self):
         os.symlink("survey", os.path.join(self.root, "link"))
         os.link(os.path.join(self.root, "survey"), os.path.join(self.root, "other name"))
+        self.write("own", "LASF of another survey")
+        os.symlink("own", os.path.join(self.root, "own link"))
+        spared = "a survey, which stays as it is"
         for words, at, status, said in (
             (["info", "nope", "o"], 1, 5, "'nope': no such file"),
             (["info", "crates", "o"], 1, 6, "'crates': a folder"),
@@ -291,6 +296,11 @@ class Words(Launcher):
             (["info", "survey", "./survey"], 2, 5, "'./survey': the file of word 1"),
             (["info", "survey", "link"], 2, 5, "'link': the file of word 1"),
             (["info", "survey", "other name"], 2, 5, "'other name': the file of word 1"),
+            (["info", "survey", "own"], 2, 5, f"'own': {spared}"),
+            (["draw", "survey", "own link", *CAMERA], 2, 5, f"'own link': {spared}"),
+            (["trial", "1", "1", "1", "own"], 4, 5, f"'own': {spared}"),
+            (["serve", "survey", "1", "own", "crates.txt", "o"], 3, 5, f"'own': {spared}"),
+            (["serve", "survey", "1", "j", "crates.txt", "own"], 5, 5, f"'own': {spared}"),
             (["serve", "survey", "1", "j", "none", "o"], 4, 5, "'none': no such file"),
             (["serve", "survey", "1", "./o", "crates.txt", "o"], 3, 5, "'./o': the file of word 5"),
             (["serve", "survey", "1", "j", "crates.txt", "o", "none", "o2"], 6, 5, "'none': no such file"),
@@ -303,6 +313,31 @@ class Words(Launcher):
             verb = {5: "open", 6: "read"}[status]
             further = self.refused(words, f"cannot {verb} word {at}", status)
             self.assertEqual(further.decode(), f"word {at} is {said}\n")
+
+    def test_a_standard_stream_that_is_closed(self):
+        for words, at, closed, what in ((["info", "-", "o"], 1, 0, "input"), (["info", "survey", "-"], 2, 1, "output")):
+            does = f"echo 'cannot open word {at}' >&2; exit 5"
+            got = self.end(words, does, prepare=lambda: (default_signals(), os.close(closed)))
+            said = f"cannot open word {at}\nword {at} is '-': standard {what} is closed\n"
+            self.assertEqual(got, (5, b"", said.encode()))
+
+    def test_a_standard_stream_that_leads_to_a_file_of_the_line(self):
+        self.write("own", "LASF of another survey")
+        serve = ["serve", "survey", "1", "j", "crates.txt"]
+        for words, streams, at, said in (
+            (["info", "-", "survey"], {"stdin": "survey"}, 2, "'survey': the file of word 1"),
+            ([*serve, "-"], {"stdout": "crates.txt"}, 5, "'-': the file of word 4"),
+            (["serve", "survey", "1", "/dev/stdout", "crates.txt", "-"], {"stdout": "README.md"}, 3, "'/dev/stdout': the file of word 5"),
+            ([*serve, "o", "-", "o2"], {"stdin": "o"}, 6, "'-': the file of word 5"),
+            (["info", "survey", "-"], {"stdout": "own"}, 2, "'-': a survey, which stays as it is"),
+        ):
+            self.write("o", "")
+            opened = {name: open(os.path.join(self.root, file), "ab" if name == "stdout" else "rb") for name, file in streams.items()}
+            child = self.start(words, f"echo 'cannot open word {at}' >&2; exit 5", **opened)
+            told = child.communicate()[1]
+            for file in opened.values():
+                file.close()
+            self.assertEqual((child.returncode, told.decode()), (5, f"cannot open word {at}\nword {at} is {said}\n"))
 
     def test_a_device_that_is_full_and_a_script_that_is_too_long(self):
         if os.path.exists("/dev/full"):
@@ -443,7 +478,7 @@ class Words(Launcher):
         ):
             further = self.refused(["trial", "5", "1", "1", out], f"cannot {verb} word 4", status)
             self.assertEqual(further.decode(), f"word 4 is {said}\n")
-        self.assertEqual(self.refused(["trial", "5", "5", "5", "survey"], "cannot open word 4", 5), b"")
+        self.assertEqual(self.refused(["trial", "5", "5", "5", "README.md"], "cannot open word 4", 5), b"")
 
     def test_another_status_than_the_word_would_give_says_nothing(self):
         for status in (7, 8, 9):

@@ -137,16 +137,23 @@ note() { faults+=("$1|$2|$3"); }
 leads=()
 look_up() { if [ -z "${leads[$1]-}" ]; then leads[$1]=$(readlink -f -- "${words[$1]}"); fi; }
 
+# Notes in `file` the name of the file that a place's word is: of - a name that leads to its standard stream.
+find_file() {
+  file=${words[$1]}
+  if [ "$file" != - ]; then return; fi
+  file=/dev/fd/1
+  if [ "$1" -eq 1 ] || [[ ${words[0]} = serve && $1 -gt 3 && $(($1 % 2)) -eq 0 ]]; then file=/dev/fd/0; fi
+}
+
 # The name of a file, its place, and the places of names that are opened before it and may not lead to the same file.
 foresee_same() {
-  local name=$1 at=$2 other earlier
+  local name=$1 at=$2 other file
   shift 2
   for other; do
-    earlier=${words[other]}
-    if [ "$earlier" = - ]; then continue; fi
+    find_file "$other"
     if [ -e "$name" ]; then
-      if [ -f "$name" ] && [ "$name" -ef "$earlier" ]; then note 5 "$at" "the file of word $other"; fi
-    else
+      if [ -f "$name" ] && [ "$name" -ef "$file" ]; then note 5 "$at" "the file of word $other"; fi
+    elif [ "${words[other]}" != - ]; then
       look_up "$at"
       look_up "$other"
       if [ "${leads[at]}" = "${leads[other]}" ]; then note 5 "$at" "the file of word $other"; fi
@@ -157,9 +164,13 @@ foresee_same() {
 # The name of a file to read, its place, and the places of the names to write that are opened before it.
 foresee_read() {
   local name=$1 at=$2 folder
-  if [ "$name" != - ]; then foresee_same "$@"; fi
+  if [ "$name" != - ]; then
+    foresee_same "$@"
+  elif [ -e /dev/fd/0 ]; then
+    foresee_same /dev/fd/0 "${@:2}"
+  fi
   if [ "$name" = - ]; then
-    if [ ! -e /dev/fd/0 ]; then note '5 6' "$at" 'standard input is closed'; fi
+    if [ ! -e /dev/fd/0 ]; then note 5 "$at" 'standard input is closed'; fi
     name=/dev/fd/0
   elif [ ! -e "$name" ]; then
     case $name in */*) folder=${name%/*}/ ;; *) folder=. ;; esac
@@ -178,15 +189,33 @@ foresee_read() {
   fi
 }
 
+# A name that leads to what is written, also within a substitution, and its place: a regular file that begins as a survey, or that may since it can't be read.
+foresee_spared() {
+  local name=$1 at=$2 begins
+  if [ ! -f "$name" ] || [ -z "$(find -L "$name" -prune -size +3c 2>/dev/null)" ]; then return; fi
+  if [ ! -r "$name" ]; then
+    note 5 "$at" 'you may not read it, so it may be a survey, and it stays as it is'
+  else
+    begins=$(od -An -tx1 -N4 -- "$name" 2>/dev/null)
+    if [ "${begins//[[:blank:]]/}" = 4c415346 ]; then note 5 "$at" 'a survey, which stays as it is'; fi
+  fi
+}
+
 # The name of a file to write, its place, and the places of the names that are opened before it.
 foresee_write() {
   local name=$1 at=$2 folder
   if [ "$name" = - ]; then
     if [ /dev/fd/1 -ef /dev/full ]; then note 9 "$at" 'standard output is a full device'; fi
-    if [ ! -e /dev/fd/1 ]; then note 9 "$at" 'standard output is closed'; fi
+    if [ ! -e /dev/fd/1 ]; then
+      note 5 "$at" 'standard output is closed'
+    else
+      foresee_same /dev/fd/1 "${@:2}"
+      foresee_spared "/proc/$$/fd/1" "$at"
+    fi
     return
   fi
   foresee_same "$@"
+  foresee_spared "$@"
   # A link to no file makes one where it leads.
   if [ -L "$name" ] && [ ! -e "$name" ]; then name=$(readlink -m -- "$name"); fi
   case $name in */*) folder=${name%/*}/ ;; *) folder=. ;; esac

@@ -45,10 +45,15 @@ fn fails(rt: &impl Abort, desk: &mut MemDesk, left: Option<&[u8]>, counts: [u64;
     assert_eq!(rt; counted(desk), counts);
 }
 
+/// The five bytes have to be there as "b".
+fn copied(rt: &impl Abort, desk: &MemDesk) {
+    assert_eq!(rt; desk.bytes_of("b"), Some(b"bytes".as_slice()));
+}
+
 /// Copies "a" where no call fails any more.
 fn works(rt: &impl Abort, desk: &mut MemDesk) {
     assert_eq!(rt; copy(desk, "a", "b"), Ok(()));
-    assert_eq!(rt; desk.bytes_of("b"), Some(b"bytes".as_slice()));
+    copied(rt, desk);
 }
 
 /// Lets one call on a name fail, on a desk of its own.
