@@ -143,7 +143,7 @@ fn a_version_is_told_after_the_signature_and_before_the_bytes_of_its_block(rt: H
     is_refused_with_byte(&rt, rt.alloc(), &EMPTY_1_3, (94, 234), small);
 }
 
-/// The first bytes of a file of LAS 1.4, so many, are refused so.
+/// The first `length` bytes of a file of LAS 1.4 are refused so.
 fn is_part_refused(
     rt: &impl Abort,
     alloc: Global,
@@ -156,7 +156,7 @@ fn is_part_refused(
     );
 }
 
-/// Why the first bytes of a file of LAS 1.4, so many, are refused.
+/// Why the first `length` bytes of a file of LAS 1.4 are refused.
 fn part_refusal(alloc: Global, signature: [u8; 4], length: usize) -> Option<LoadFault> {
     match file(alloc, &Fields { signature, ..EMPTY }, &[]) {
         Ok(bytes) => loaded(alloc, bytes.as_slice().get(..length).unwrap_or(&[])).err(),
@@ -268,7 +268,7 @@ fn a_file_is_accepted_up_to_each_bound(rt: HostRuntime) {
     }
 }
 
-/// A file of a header alone of this format, with so many bytes a record, is refused so.
+/// A file of a header alone, of this format and record length, is refused so.
 fn is_refused_with_length(
     rt: &impl Abort,
     alloc: Global,

@@ -111,7 +111,7 @@ pub const RECORDS: [u8; 40] = [
     0, 0, 0, 6, 0, 0, 0, 0,
 ];
 
-/// Appends a variable length record with so many bytes after its header.
+/// Appends a variable length record with `length` bytes after its header.
 pub fn append_vlr(bytes: &mut Bytes, length: u8) -> Result<(), OutOfMemory> {
     append_all(bytes, &[&[0; 20], &[length, 0], &[0; 32]])?;
     for _ in 0..length {

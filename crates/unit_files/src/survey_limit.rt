@@ -5,7 +5,7 @@ use std::alloc::Global;
 use std::process::Abort;
 use view_ends::{Failed, Source};
 
-/// So many zeros, which are not told beforehand.
+/// A number of zeros, which are not told beforehand.
 #[derive(Drop)]
 struct Zeros {
     all: u64,
@@ -28,7 +28,7 @@ impl Source for Zeros {
     }
 }
 
-/// So many zeros are answered so, and each of them is taken.
+/// A load of `all` zeros has this fault, and takes each of them.
 fn are_answered(rt: &impl Abort, alloc: Global, all: u64, want: LoadFault) {
     let mut zeros = Zeros { all, taken: 0 };
     assert_eq!(rt; load(alloc, &mut zeros).err(), Some(want));
