@@ -3,6 +3,7 @@ use std::fmt::Display;
 use std::fs::{Metadata, OpenFile, OpenOptions};
 use std::io::{Error, ErrorKind, Read, Result, Seek, SeekFrom, Write};
 use std::rt::Files;
+use std::time::{Clock, Duration};
 
 /// What goes wrong with each file of a system.
 #[derive(Clone, Copy, PartialEq, Eq)]
@@ -173,5 +174,19 @@ impl<R: Print> Print for Unsteady<R> {
 
     fn write_all(&self, bytes: &[u8]) -> Result<()> {
         self.host.write_all(bytes)
+    }
+}
+
+impl<R: Clock> Clock for Unsteady<R> {
+    fn monotonic(&self) -> Result<Duration> {
+        self.host.monotonic()
+    }
+
+    fn since_1970(&self) -> Result<Duration> {
+        self.host.since_1970()
+    }
+
+    fn sleep(&self, duration: Duration) {
+        self.host.sleep(duration)
     }
 }

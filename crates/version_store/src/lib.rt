@@ -19,9 +19,9 @@ mod store;
 mod tests;
 mod versioned;
 
+pub use ahead::Ahead;
 pub use by_blocks::{chosen_by, edited_by};
 pub use costs::is_quicker_by_pages;
-pub use ahead::Ahead;
 pub use held::Held;
 pub use history::{Entry, History, What};
 pub use over::SharedOver;

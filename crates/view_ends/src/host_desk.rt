@@ -12,6 +12,7 @@ use crate::opened::{Identity, Mark, Opened};
 use std::alloc::Global;
 use std::fs::{Metadata, OpenFile, OpenOptions};
 use std::rt::Files;
+use std::time::Clock;
 use std::{fs, io};
 
 /// The name of standard input and of standard output.
@@ -40,7 +41,7 @@ pub struct HostDesk<R> {
     output_opened: bool,
 }
 
-impl<R: Files + Input + Print + Copy + Send> HostDesk<R>
+impl<R: Files + Input + Print + Clock + Copy + Send> HostDesk<R>
 where
     R::File: Send,
     R::Reader: Send,
@@ -59,7 +60,7 @@ where
     }
 }
 
-impl<R: Files + Input + Print + Copy> HostDesk<R> {
+impl<R: Files + Input + Print + Clock + Copy> HostDesk<R> {
     ghost use Rattle.view_ends.specs.Opened.{HasRoom, ReadsApart, WritesApart};
 
     /// Notes what is opened to read, and answers `None` where it is written.
@@ -108,7 +109,7 @@ impl<R: Files + Input + Print + Copy> HostDesk<R> {
     }
 
     /// Opens standard input, once, and answers `None` where it is closed too.
-    fn standard_input(&mut self) -> Option<HostSource<R::File, R::Reader>>
+    fn standard_input(&mut self) -> Option<HostSource<R::File, R::Reader, R>>
         requires { HasRoom self.old.opened }
         ensures ledger { self.new.ledger ≡ self.old.ledger }
         ensures fresh { IfSome result (λ input. (input.taken ≡ 0) × (input.faults ≡ 0)) }
@@ -120,7 +121,7 @@ impl<R: Files + Input + Print + Copy> HostDesk<R> {
         let about = fs::metadata(&self.rt, INPUT).ok()?;
         let mark = self.note_input(&about)?;
         self.input_opened = true;
-        Some(HostSource::new(Origin::Standard(self.rt.reader()), mark, 0))
+        Some(HostSource::new(Origin::Standard(self.rt.reader(), self.rt), mark, 0))
     }
 
     /// Opens standard output, once, and answers `None` where it is closed too.
@@ -140,7 +141,7 @@ impl<R: Files + Input + Print + Copy> HostDesk<R> {
     }
 
     /// Opens a name for reading, and answers `None` where that failed or the file is written.
-    fn input(&mut self, name: &str) -> Option<HostSource<R::File, R::Reader>>
+    fn input(&mut self, name: &str) -> Option<HostSource<R::File, R::Reader, R>>
         requires { HasRoom self.old.opened }
         ensures ledger { self.new.ledger ≡ self.old.ledger }
         ensures fresh { IfSome result (λ input. (input.taken ≡ 0) × (input.faults ≡ 0)) }
@@ -190,14 +191,14 @@ fn off_streams<F: OpenFile + Drop>(opened: io::Result<F>) -> io::Result<F> {
     opened?.try_clone()
 }
 
-impl<R: Files + Input + Print + Copy + Send> Desk for HostDesk<R>
+impl<R: Files + Input + Print + Clock + Copy + Send> Desk for HostDesk<R>
 where
     R::File: Send,
     R::Reader: Send,
 {
     ghost use Rattle.view_ends.specs.Ledger.{said};
 
-    type In = HostSource<R::File, R::Reader>;
+    type In = HostSource<R::File, R::Reader, R>;
 
     type Out = HostSink<R::File, R>;
 
@@ -205,7 +206,7 @@ where
 
     ghost says = { λ d. said (λ _. None) d.ledger };
 
-    fn open_in(&mut self, name: &str) -> Result<HostSource<R::File, R::Reader>, EndFault> {
+    fn open_in(&mut self, name: &str) -> Result<HostSource<R::File, R::Reader, R>, EndFault> {
         self.opened.reserve()?;
         self.ledger.enter(name)?;
         match self.input(name) {
@@ -221,7 +222,7 @@ where
     }
 
     #[tactic(auto, using(crate::proofs::Known::entered_if_known))]
-    fn shut(&mut self, name: &str, input: HostSource<R::File, R::Reader>) {
+    fn shut(&mut self, name: &str, input: HostSource<R::File, R::Reader, R>) {
         let counts = Counts {
             taken: input.taken(),
             read_faults: input.faults(),

@@ -4,10 +4,11 @@ ghost use Rattle.std.specs.Io.{WritesAtMost};
 use crate::fault::EndFault;
 use crate::opened::{Identity, Mark};
 use crate::sink::Sink;
-use crate::waiting::wait_for_output;
+use crate::waiting::pause;
 use std::fs::OpenFile;
 use std::io;
 use std::io::{Error, ErrorKind, Write};
+use std::time::Clock;
 
 /// Where the bytes go: a file, or standard output.
 #[derive(Drop)]
@@ -16,17 +17,25 @@ pub(crate) enum Target<F, P> {
     Standard(P),
 }
 
-impl<F: Write, P: Print> Target<F, P> {
+impl<F: Write, P: Print + Clock> Target<F, P> {
     /// Whether a write that ended so is made again: a signal cut it short, or standard output took
     /// nothing at once, and has been waited for.
     fn goes_on(&self, error: &Error) -> bool {
         match error.kind() {
             ErrorKind::Interrupted => true,
-            ErrorKind::WouldBlock if matches!(self, Target::Standard(_)) => {
-                wait_for_output();
+            ErrorKind::WouldBlock => self.waits(),
+            _ => false,
+        }
+    }
+
+    /// Waits for standard output, and for no other one.
+    fn waits(&self) -> bool {
+        match self {
+            Target::File(_) => false,
+            Target::Standard(clock) => {
+                pause(clock);
                 true
             }
-            _ => false,
         }
     }
 
@@ -60,7 +69,7 @@ pub struct HostSink<F, P> {
     faults: u64,
 }
 
-impl<F: Write + OpenFile, P: Print> HostSink<F, P> {
+impl<F: Write + OpenFile, P: Print + Clock> HostSink<F, P> {
     /// An output that got nothing yet, and what the system tells of it.
     pub(crate) fn new(target: Target<F, P>, mark: Mark) -> HostSink<F, P>
         ensures mark { result.mark ≡ mark }
@@ -132,7 +141,7 @@ fn store<F: OpenFile>(file: &F, mark: Mark) -> io::Result<()> {
     }
 }
 
-impl<F: Write + OpenFile, P: Print> Sink for HostSink<F, P> {
+impl<F: Write + OpenFile, P: Print + Clock> Sink for HostSink<F, P> {
     ghost got = { λ _. None };
 
     ghost faults = { λ s. s.faults };

@@ -4,9 +4,10 @@ ghost use Rattle.std.specs.Io.{ReadsAtMost};
 use crate::fault::Failed;
 use crate::opened::Mark;
 use crate::source::Source;
-use crate::waiting::wait_for_input;
+use crate::waiting::pause;
 use std::io;
 use std::io::{Error, ErrorKind, Read};
+use std::time::Clock;
 
 /// How many bytes are taken from one input at most: a take after as many fails.
 const MOST_TAKEN: u64 = 1 << 63;
@@ -14,24 +15,32 @@ const MOST_TAKEN: u64 = 1 << 63;
 /// How many bytes of one input are expected at most: one more than the longest file that is read.
 const MOST_EXPECTED: u64 = (1 << 30) + 1;
 
-/// Where the bytes come from: a file, or standard input.
+/// Where the bytes come from: a file, or standard input, with the clock by which it is waited for.
 #[derive(Drop)]
-pub(crate) enum Origin<F, I> {
+pub(crate) enum Origin<F, I, C> {
     File(F),
-    Standard(I),
+    Standard(I, C),
 }
 
-impl<F: Read, I: Read> Origin<F, I> {
+impl<F: Read, I: Read, C: Clock> Origin<F, I, C> {
     /// Whether a read that ended so is made again: a signal cut it short, or standard input had
     /// nothing yet, and has been waited for.
     fn goes_on(&self, error: &Error) -> bool {
         match error.kind() {
             ErrorKind::Interrupted => true,
-            ErrorKind::WouldBlock if matches!(self, Origin::Standard(_)) => {
-                wait_for_input();
+            ErrorKind::WouldBlock => self.waits(),
+            _ => false,
+        }
+    }
+
+    /// Waits for standard input, and for no other one.
+    fn waits(&self) -> bool {
+        match self {
+            Origin::File(_) => false,
+            Origin::Standard(_, clock) => {
+                pause(clock);
                 true
             }
-            _ => false,
         }
     }
 
@@ -42,7 +51,7 @@ impl<F: Read, I: Read> Origin<F, I> {
         for _ in 0..u64::MAX {
             let answer = match self {
                 Origin::File(file) => file.read(buf),
-                Origin::Standard(input) => input.read(buf),
+                Origin::Standard(input, _) => input.read(buf),
             };
             match answer {
                 Err(error) if self.goes_on(&error) => {}
@@ -56,8 +65,8 @@ impl<F: Read, I: Read> Origin<F, I> {
 /// An opened input of the system, without a buffer. It tells no bytes, counts each error as a
 /// fault, and reads again where a signal cut a read short.
 #[derive(Drop)]
-pub struct HostSource<F, I> {
-    origin: Origin<F, I>,
+pub struct HostSource<F, I, C> {
+    origin: Origin<F, I, C>,
     mark: Mark,
     length: u64,
     taken: u64,
@@ -65,10 +74,10 @@ pub struct HostSource<F, I> {
     ghost most: { taken ≤ 2 ^ 63 },
 }
 
-impl<F: Read, I: Read> HostSource<F, I> {
+impl<F: Read, I: Read, C: Clock> HostSource<F, I, C> {
     /// An input of which nothing was taken yet, and what the system tells of it. Its length is 0
     /// where the system knows none.
-    pub(crate) fn new(origin: Origin<F, I>, mark: Mark, length: u64) -> HostSource<F, I>
+    pub(crate) fn new(origin: Origin<F, I, C>, mark: Mark, length: u64) -> HostSource<F, I, C>
         ensures mark { result.mark ≡ mark }
         ensures taken { result.taken ≡ 0 }
         ensures faults { result.faults ≡ 0 }
@@ -104,7 +113,7 @@ impl<F: Read, I: Read> HostSource<F, I> {
     }
 }
 
-impl<F: Read, I: Read> Source for HostSource<F, I> {
+impl<F: Read, I: Read, C: Clock> Source for HostSource<F, I, C> {
     ghost left = { λ _. None };
 
     ghost taken = { λ s. s.taken };
