@@ -1,4 +1,5 @@
-ghost use Rattle.std.specs.Prelude.{◌≡◌, ◌+◌, ◌≤◌, ◌<◌, ◌↔◌, ◌∷◌, ℕ, length, slice_index, Contains, IsTrue, MatchBool, MatchOption, IsPermutation, Some, slice_get};
+ghost use Rattle.std.specs.Prelude.{◌≡◌, ◌+◌, ◌≤◌, ◌<◌, ◌↔◌, ◌∷◌, Contains, IsTrue, MatchBool, MatchOption, IsPermutation, Some, slice_get};
+ghost use Rattle.view_ends.specs.Plans.{StopsBefore};
 
 use view_base::Listing;
 
@@ -29,7 +30,9 @@ impl Failing {
 
     /// Whether the call at this place fails. Each place that was given fails one call.
     pub(crate) fn strike(&mut self, at: u64) -> bool
-        ensures { MatchBool result (IsPermutation self.old.places.items (at ∷ self.new.places.items)) ((self.new.places.items ≡ self.old.places.items) × ¬ Contains self.old.places.items at) }
+        ensures { MatchBool result
+            (IsPermutation self.old.places.items (at ∷ self.new.places.items))
+            ((self.new.places.items ≡ self.old.places.items) × ¬ Contains self.old.places.items at) }
     {
         match self.index_of(at) {
             Some(i) => {
@@ -43,7 +46,7 @@ impl Failing {
     /// How many of `most` bytes from `at` on lie before the next place.
     pub(crate) fn room(&self, at: u64, most: usize) -> usize
         ensures within { result ≤ most }
-        ensures before { (k : ℕ) → k < length self.now.places.items → at < slice_index self.now.places.items k → at + result ≤ slice_index self.now.places.items k }
+        ensures before { StopsBefore self.now.places.items at result }
         ensures some { 0 < most → 0 < result }
         ensures full { result < most → Contains self.now.places.items (at + result) }
     {

@@ -109,7 +109,8 @@ impl Desk for MemDesk {
     ghost says = { mem_desk };
 
     fn open_in(&mut self, name: &str) -> Result<MemSource, EndFault>
-        ensures fresh { IfOk result (λ input. IsFreshIn ((mem_desk self.old).file name.now) (mem_source input).left (mem_source input).taken (mem_source input).faults) }
+        ensures fresh { IfOk result (λ input. IsFreshIn ((mem_desk self.old).file name.now)
+            (mem_source input).left (mem_source input).taken (mem_source input).faults) }
         ensures there { OnOk result (IsSome ((mem_desk self.old).file name.now)) }
         ensures desk { OpensIn (mem_desk self.old) (mem_desk self.new) name.now result }
         ensures planned { OpensInAsPlanned (planned_on self.old) (planned_on self.new) name.now ((mem_desk self.old).file name.now) result }

@@ -62,7 +62,8 @@ impl Sink for MemSink {
 
     fn give(&mut self, piece: &[u8]) -> Result<usize, EndFault>
         ensures gives { Gives (mem_sink self.old) (mem_sink self.new) piece.now result }
-        ensures planned { IfSome (mem_sink self.old).got (λ got. FailsAt (IsErrOf result EndFault.Failed) (planned_gives self.old) (planned_gives self.new) (length got)) }
+        ensures planned { IfSome (mem_sink self.old).got (λ got. FailsAt (IsErrOf result EndFault.Failed)
+            (planned_gives self.old) (planned_gives self.new) (length got)) }
         ensures stops { IfOk result (λ n. IfSome (mem_sink self.old).got (λ got. StopsBefore (planned_gives self.old) (length got) n)) }
     {
         let at = self.still.got().len() as u64;

@@ -66,7 +66,8 @@ impl Desk for StillDesk {
     ghost says = { still_desk };
 
     fn open_in(&mut self, name: &str) -> Result<StillSource, EndFault>
-        ensures fresh { IfOk result (λ input. IsFreshIn ((still_desk self.old).file name.now) (still_source input).left (still_source input).taken (still_source input).faults) }
+        ensures fresh { IfOk result (λ input. IsFreshIn ((still_desk self.old).file name.now)
+            (still_source input).left (still_source input).taken (still_source input).faults) }
         ensures there { OnOk result (IsSome ((still_desk self.old).file name.now)) }
         ensures desk { OpensIn (still_desk self.old) (still_desk self.new) name.now result }
         ensures absent { IsErrOf result EndFault.Failed → (still_desk self.old).file name.now ≡ None }
