@@ -1,9 +1,8 @@
 -- What is made of a number is laid out as a survey.
 use Rattle.std.proofs.Math.Nat.{suc-mul}
-use Rattle.std.proofs.Common.{◌≡◌, ℕ, zero, suc, ◌+◌, ◌*◌, ◌-◌, ◌≤◌, ◌<◌, ◌^◌, List, [], ◌∷◌, ◌++◌, length, length-append, ◌∙◌, ap, sym, refl, arith, Some, None, Option}
+use Rattle.std.proofs.Common.{◌≡◌, ℕ, zero, suc, ◌+◌, ◌*◌, ◌≤◌, ◌<◌, ◌^◌, List, [], ◌∷◌, length, length-append, ◌∙◌, ap, refl, arith, None, Option}
 use Rattle.std.specs.List.{range_with_len, flat_map, starts_with}
-use Rattle.std.proofs.lemmas.Nat.{from_le_bytes-to_le_bytes_2, from_le_bytes-to_le_bytes_8}
-use Rattle.view_meaning.specs.Survey.{u8_at, u16_at, u32_at, u64_at, minor_of, header_size, points_at, vlr_count, format_of, record_length, evlrs_at, evlr_count, record_count, points_end}
+use Rattle.view_meaning.specs.Survey.{u8_at, u16_at, u32_at, u64_at, minor_of, header_size, points_at, vlr_count, format_of, record_length, evlr_count, record_count, points_end}
 use Rattle.std.specs.Prelude.{Bool, true, nat_eq, codes}
 use Rattle.std.proofs.lemmas.Bool.{le-leb, lt-ltb, ne_eqb}
 use Rattle.view_base.specs.declared.fault.SurveyFault.{SurveyFault}

@@ -1,5 +1,5 @@
 -- Lists that pieces are appended to, one after another.
-use Rattle.std.proofs.Common.{◌≡◌, List, ◌++◌, ◌∙◌, ap, refl, sym}
+use Rattle.std.proofs.Common.{◌≡◌, List, ◌++◌, ◌∙◌, ap}
 use Rattle.std.proofs.lemmas.List.{append_assoc}
 
 pub append_3 : {A : Type 0} (old one two three a b d : List A) → one ≡ old ++ a → two ≡ one ++ b → three ≡ two ++ d → three ≡ old ++ (a ++ b ++ d)

@@ -1,5 +1,5 @@
 -- Room for so many records of one length.
-use Rattle.std.proofs.Common.{◌≡◌, ℕ, suc, ◌+◌, ◌*◌, ◌<◌, ◌≤◌, arith}
+use Rattle.std.proofs.Common.{ℕ, suc, ◌+◌, ◌*◌, ◌<◌, ◌≤◌, arith}
 use Rattle.std.proofs.Math.Nat.{suc-mul, mul-le-mul_right}
 
 pub next_fits : (count k length before spare : ℕ) → count * length ≤ before → before ≤ spare + k * length → k < count → length ≤ spare

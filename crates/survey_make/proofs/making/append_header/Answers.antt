@@ -1,4 +1,4 @@
-use Rattle.std.proofs.Common.{rules, ◌≡◌, ℕ, ◌+◌, ◌-◌, List, [], ◌∷◌, ◌++◌, codes, replicate}
+use Rattle.std.proofs.Common.{[], ◌∷◌, ◌++◌, codes}
 use Rattle.std.specs.Int.{to_le_bytes, w16, w32, w64}
 use Rattle.view_meaning.specs.Layout.{least_length}
 use Rattle.survey_make.specs.Made.{zeros, made_header}

@@ -1,4 +1,4 @@
-use Rattle.std.proofs.Common.{rules, ◌≡◌, ◌≤◌, ℕ, ◌+◌, ◌*◌, List, [], ◌++◌, ◌∙◌, ap, sym, refl, arith}
+use Rattle.std.proofs.Common.{ℕ, ◌*◌, ◌∙◌, ap, sym, refl, arith}
 use Rattle.std.proofs.lemmas.List.{append-nil}
 use Rattle.view_meaning.specs.Layout.{least_length}
 use Rattle.survey_make.specs.Made.{state}

@@ -1,4 +1,4 @@
-use Rattle.std.proofs.Common.{◌≡◌, ◌≤◌, ◌+◌, ◌*◌, ◌++◌, ℕ, ◌-◌}
+use Rattle.std.proofs.Common.{◌≡◌, ◌≤◌, ◌+◌, ◌*◌, ◌++◌}
 use Rattle.std.specs.List.{range_with_len, flat_map}
 use Rattle.survey_make.specs.Made.{made_record, state}
 use Rattle.view_meaning.specs.Layout.{least_length}

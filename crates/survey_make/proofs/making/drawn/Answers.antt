@@ -1,4 +1,4 @@
-use Rattle.std.proofs.Common.{◌≡◌, ℕ, ◌/◌, ◌%◌, ◌^◌, ◌∙◌, ap, sym}
+use Rattle.std.proofs.Common.{ℕ, ◌/◌, ◌%◌, ◌^◌, ◌∙◌, ap}
 use Rattle.survey_make.specs.Made.{state, draw}
 use Rattle.survey_make.proofs.Drawing.{next}
 use Rattle.survey_make.proofs.making.drawn.Goals as goal

@@ -1,6 +1,6 @@
-use Rattle.std.proofs.Common.{rules, ◌≡◌, ℕ, List, ◌++◌, ◌∙◌, ap, arith}
+use Rattle.std.proofs.Common.{rules, ℕ, List, ◌++◌, ◌∙◌, ap, arith}
 use Rattle.std.specs.List.{range_with_len, flat_map}
-use Rattle.survey_make.specs.Made.{made, made_header, made_record}
+use Rattle.survey_make.specs.Made.{made, made_record}
 use Rattle.survey_make.proofs.Laid.{laid-made}
 use Rattle.survey_make.proofs.making.make.Goals as goal
 

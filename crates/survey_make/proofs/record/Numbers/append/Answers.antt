@@ -1,5 +1,4 @@
-use Rattle.std.proofs.Common.{rules, ◌≡◌, ℕ, ◌+◌, ◌-◌, List, [], ◌∷◌, ◌++◌, codes, replicate}
-use Rattle.std.specs.Int.{to_le_bytes, w16, w32, w64}
+use Rattle.std.proofs.Common.{rules, ◌+◌, ◌-◌, [], ◌∷◌}
 use Rattle.view_meaning.specs.Survey.{class_place, rgb_place}
 use Rattle.view_meaning.specs.Layout.{least_length}
 use Rattle.survey_make.specs.Made.{zeros, place_bytes, behind_class, record_bytes}

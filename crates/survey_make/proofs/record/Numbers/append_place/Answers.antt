@@ -1,5 +1,5 @@
-use Rattle.std.proofs.Common.{rules, ◌≡◌, ℕ, ◌+◌, ◌-◌, List, [], ◌∷◌, ◌++◌, codes, replicate}
-use Rattle.std.specs.Int.{to_le_bytes, w16, w32, w64}
+use Rattle.std.proofs.Common.{rules}
+use Rattle.std.specs.Int.{to_le_bytes, w16, w32}
 use Rattle.survey_make.specs.Made.{place_bytes}
 use Rattle.survey_make.proofs.Pieces.{append_4}
 use Rattle.survey_make.proofs.record.Numbers.append_place.Goals as goal
