@@ -21,7 +21,7 @@ from sources import ROOT, between, known_words, settle, source_files, stands_on
 PAGE = "docs/ARCHITECTURE.md"
 USED = " *Used by "
 # What nothing stands on: the program and its tests.
-ON_TOP = {"view_main", "acceptance_draw", "acceptance_serve", "acceptance_sessions"}
+ON_TOP = {"view_main", "acceptance_sessions"}
 # So many users of a crate are named.
 MOST = 12
 KIT = {"atomic_table", "byteorder", "itoa", "thiserror"}

@@ -16,7 +16,7 @@ import sys
 
 from sources import ROOT, known_words, stands_on
 
-UNCOUNTED = {"view_meaning", "view_main", "test_desks", "acceptance_draw", "acceptance_serve", "acceptance_sessions"}
+UNCOUNTED = {"view_meaning", "view_main", "test_desks", "acceptance_sessions"}
 CHAIN, LINES, CLAUSE = 8, 400, 200
 # What a line of a page begins with that is no further line of a paragraph.
 NO_PROSE = ("|", "#", "-", "```", "    ", "<!--", ">", "1", "2", "3", "4", "5", "6", "7", "8", "9")
