@@ -5,6 +5,7 @@
 """
 
 import os
+import re
 import shutil
 import subprocess
 import sys
@@ -105,6 +106,15 @@ class Pages(unittest.TestCase):
     def test_a_claim_of_the_readme_by_no_clause_is_refused(self):
         self.change("README.md", "`nearest` on `picture`", "`closest` on `picture`")
         self.assertIn("README.md names what isn't there: closest", self.run_script("map.py"))
+
+    def test_the_pages_name_what_the_gate_runs(self):
+        with open(os.path.join(ROOT, ".ci", "run"), encoding="utf-8") as file:
+            ran = set(re.findall(r"python3 (?:\"\$test\"|examples/(\w+\.py))", file.read())) - {""}
+        for page, part in (("README.md", "## What is only tested\n(.*?)\n## "), ("docs/DECISIONS.md", "## What does the gate run [^\n]*\n(.*?)\n## ")):
+            with open(os.path.join(ROOT, page), encoding="utf-8") as file:
+                text = re.search(part, file.read(), re.S)[1]
+            named = {name for name in re.findall(r"`(?:examples/)?(\w+\.py)`", text) if os.path.exists(os.path.join(ROOT, "examples", name))}
+            self.assertEqual(named, ran, page)
 
     def test_other_words_are_refused(self):
         for script in PAGES:

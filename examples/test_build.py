@@ -143,7 +143,7 @@ class Crates(unittest.TestCase):
     def test_the_crates_of_this_repository_are_all_known(self):
         below = build.crates_of(ROOT)
         self.assertTrue({"view_base", "view_commands", "view_main"} <= below.keys())
-        self.assertTrue("acceptance_draw" not in below and below["view_main"] == below.keys() - {"view_main"})
+        self.assertTrue("acceptance_sessions" not in below and below["view_main"] == below.keys() - {"view_main"})
 
 
 if __name__ == "__main__":

@@ -3,8 +3,8 @@ use std::alloc::Global;
 use std::sync::atomic::{AtomicU64, Ordering};
 use std::test::Fail;
 use test_desks::{
-    CLASS_2, Host, ONE, Record, SERVE_TWO, Shelf, VIEW, VIEWED, command_beside, fill, holds, plain,
-    same,
+    CLASS_2, File, Host, ONE, Record, SERVE_TWO, Shelf, VIEW, VIEWED, command_beside, fill, holds,
+    plain, same,
 };
 use view_commands::Status;
 use view_ends::{Beside, MemDesk};
@@ -82,24 +82,36 @@ fn all_told(roll: &Roll) -> Result<(), Fail> {
     same(&told, &[1, 1, 1, 0], "blocks, and holds that ran out")
 }
 
-/// Draws a survey of three blocks by two workers.
-fn draws_by_two(rt: &impl Host, alloc: Global, survey: &[u8]) -> Result<(), Fail> {
+/// Runs a line by two workers over a survey of three blocks, which has to leave this output.
+fn meets_by_two(
+    rt: &impl Host,
+    alloc: Global,
+    survey: &[u8],
+    line: &str,
+    out: File,
+) -> Result<(), Fail> {
     let mut desk = MemDesk::empty(alloc);
-    fill(alloc, &mut desk, &[("a.las", survey)])?;
+    fill(alloc, &mut desk, &[("a.las", survey), ("i", VIEW)])?;
     let roll = Roll {
         calls: [AtomicU64::new(0), AtomicU64::new(0)],
         blocks: [AtomicU64::new(0), AtomicU64::new(0), AtomicU64::new(0)],
         alone: AtomicU64::new(0),
     };
-    let status = command_beside(rt, alloc, &mut desk, BY_TWO, &roll)?.status;
-    same(&status, &Status::Done, BY_TWO)?;
+    let status = command_beside(rt, alloc, &mut desk, line, &roll)?.status;
+    same(&status, &Status::Done, line)?;
     all_told(&roll)?;
-    holds(&desk, &[("a.ppm", CLASS_2)], BY_TWO)
+    holds(&desk, &[out], line)
+}
+
+/// A picture by two workers, and a view of the one session of a `serve` by two.
+fn each_meets_by_two(rt: &impl Host, alloc: Global, survey: &[u8]) -> Result<(), Fail> {
+    meets_by_two(rt, alloc, survey, BY_TWO, ("a.ppm", CLASS_2))?;
+    meets_by_two(rt, alloc, survey, "serve a.las 2 j i o", ("o", VIEWED))
 }
 
 #[test]
 fn two_workers_draw_at_the_same_time(rt: HostRuntime) -> Result<(), Fail> {
     // Blocks have at most 1024 records.
     let records: [Record; 2049] = [(0, 0, 5, 2); 2049];
-    draws_by_two(&rt, rt.alloc(), plain(rt.alloc(), &records)?.as_slice())
+    each_meets_by_two(&rt, rt.alloc(), plain(rt.alloc(), &records)?.as_slice())
 }

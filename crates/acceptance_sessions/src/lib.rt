@@ -1,23 +1,20 @@
-//! Tests of whole commands: what two and more sessions of `serve` do beside each other, and sessions over
-//! ends of their own. Expected bytes come from arithmetic by hand.
+//! Tests of whole commands: calls that fail and want of memory at an end, sessions of `serve` beside each
+//! other, workers of one picture, and sessions over ends of their own. Expected bytes come from arithmetic
+//! by hand.
 #![tactic(auto)]
 
 #[cfg(test)]
 mod arriving;
 #[cfg(test)]
-mod dialogue;
+mod failing;
 #[cfg(test)]
-mod full;
+mod made;
 #[cfg(test)]
 mod pairs;
 #[cfg(test)]
-mod racing;
+mod scarce;
 #[cfg(test)]
 mod short;
-#[cfg(test)]
-mod sides;
-#[cfg(test)]
-mod sixteen;
 #[cfg(test)]
 mod waiting;
 #[cfg(test)]

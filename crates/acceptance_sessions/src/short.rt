@@ -119,10 +119,10 @@ fn serves(rt: &impl Host, alloc: Global, front: &[u8]) -> Result<(), Fail> {
     )
 }
 
-/// Serves where the first output is full at each place of these replies.
+/// Serves where the first output is full in the heads of these replies, and in the saved file.
 fn serves_each(rt: &impl Host, alloc: Global, all: &[u8]) -> Result<(), Fail> {
-    for at in 0..all.len() {
-        serves(rt, alloc, &all[..at])?;
+    for at in [0, 1, 10, 11, 12, 21, 22, 23, 397, 412, 416] {
+        serves(rt, alloc, all.get(..at).unwrap_or(all))?;
     }
     Ok(())
 }
