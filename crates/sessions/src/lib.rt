@@ -3,8 +3,6 @@
 #![tactic(auto)]
 
 mod answering;
-#[cfg(test)]
-mod count_tests;
 mod counting;
 mod drawing;
 mod end;
@@ -16,8 +14,6 @@ mod marking;
 mod pending;
 mod replies;
 mod serving;
-#[cfg(test)]
-mod tests;
 mod whole_replies;
 mod world;
 

@@ -3,11 +3,11 @@ ghost use Rattle.std.specs.Prelude.{◌≡◌, ◌+◌, ◌≤◌, None, [], IfO
 ghost use Rattle.version_store.specs.Sharing.{IsOwn};
 ghost use Rattle.sessions.specs.Worlds.{IsWorld, HasGivenBack};
 
-use crate::{Reason, Scene, World, serve_session};
 use edit_ops::read_edit;
 use grid_blocks::build;
 use las_survey::{Survey, load};
 use min_frame::EmptyWords;
+use sessions::{Reason, Scene, World, serve_session};
 use std::alloc::Global;
 use std::process::Abort;
 use std::sync::{Arc, Wait};
@@ -38,7 +38,17 @@ fn survey(alloc: Global) -> Result<Survey, Fail> {
 /// A world over that survey, drawn by one worker, and the root pass.
 fn world<R: Threads + Sync>(rt: &R, alloc: Global) -> Result<(World, Pass), Fail>
     ensures world { IfOk result (λ r. IsWorld r.0) }
-    ensures pass { IfOk result (λ r. r.1 ≡ record { gate = r.0.shared.name; who = 0; seen = []; mine = []; turn = None; root = true; out = 0; given = 0; kept = [] }) }
+    ensures pass { IfOk result (λ r. r.1 ≡ record {
+      gate = r.0.shared.name;
+      who = 0;
+      seen = [];
+      mine = [];
+      turn = None;
+      root = true;
+      out = 0;
+      given = 0;
+      kept = [];
+    }) }
 {
     let survey = survey(alloc)?;
     let blocks = Arc::new(alloc, build(alloc, rt, 1, &survey)?)?;
@@ -109,7 +119,17 @@ fn new_pass(world: &World, root: &mut Pass) -> Pass
     requires root { root.old.root ≡ true }
     requires few { root.old.given ≤ 9 }
     ensures root { root.new ≡ record root.old { out = root.old.out + 1; given = root.old.given + 1 } }
-    ensures pass { result ≡ record { gate = world.now.shared.name; who = root.old.given + 1; seen = root.old.seen; mine = []; turn = None; root = false; out = 0; given = 0; kept = [] } }
+    ensures pass { result ≡ record {
+      gate = world.now.shared.name;
+      who = root.old.given + 1;
+      seen = root.old.seen;
+      mine = [];
+      turn = None;
+      root = false;
+      out = 0;
+      given = 0;
+      kept = [];
+    } }
     ensures own { IsOwn result }
     ensures given_back { HasGivenBack result.seen result.who }
 {

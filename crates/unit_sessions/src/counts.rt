@@ -2,10 +2,10 @@
 ghost use Rattle.std.specs.Prelude.{◌≡◌, length};
 ghost use Rattle.view_meaning.specs.Survey.{record_count};
 
-use crate::count_passing;
 use class_bits::{ClassSet, Filter};
 use class_pages::{Classes, base};
 use las_survey::{Survey, load};
+use sessions::count_passing;
 use std::alloc::Global;
 use std::process::Abort;
 use std::test::Fail;
