@@ -7,4 +7,14 @@ mod gates;
 #[cfg(test)]
 mod ledgers;
 #[cfg(test)]
+mod party;
+#[cfg(test)]
+mod sharing;
+#[cfg(test)]
+mod stores;
+#[cfg(test)]
+mod surveys;
+#[cfg(test)]
 mod tape;
+#[cfg(test)]
+mod told;

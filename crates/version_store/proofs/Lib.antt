@@ -5,7 +5,6 @@ pub mod PinsOut
 pub mod HeldPush
 pub mod Keeping
 pub mod KeptAfter
-pub mod Owed
 pub mod Examples
 pub mod SharedCalls
 pub mod SharedSteps

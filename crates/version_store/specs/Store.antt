@@ -1,5 +1,5 @@
 -- The store of the versions of a survey's classes.
-use Rattle.std.specs.Prelude.{◌≡◌, ℕ, ◌+◌, ◌≤◌, ◌==◌, ◌&&◌, Bool, List, [], ◌∷◌, ◌++◌, length, map, take, All, sum_by, count_by}
+use Rattle.std.specs.Prelude.{◌≡◌, ℕ, ◌≤◌, ◌==◌, Bool, List, [], ◌∷◌, ◌++◌, length, map, take, All, sum_by}
 use Rattle.std.specs.Arc.{arc_value}
 use Rattle.view_meaning.specs.Survey.{record_count, format_of}
 use Rattle.view_meaning.specs.Classes.{Edit, classes}
@@ -7,7 +7,7 @@ use Rattle.class_pages.specs.Fitting.{EachFits}
 use Rattle.version_store.specs.declared.history.What.{What}
 use Rattle.version_store.specs.declared.history.Entry.{Entry}
 use Rattle.version_store.specs.declared.held.Held.{Held}
-use Rattle.version_store.specs.Histories.{journal, numbered, entries_by, is_pin, is_unpin, how_many, held, IsLegal}
+use Rattle.version_store.specs.Histories.{journal, held, IsLegal}
 
 -- the bytes of the survey, and what happened to the versions
 pub record Stored : Type 0 where
@@ -55,7 +55,3 @@ pub record IsKept (b : List ℕ) (h : List Entry) (helds : List Held) (out spare
   pub pins : sum_by (λ (it : Held). it.pins) helds ≡ out
   pub made : out ≤ length h
   pub room : out ≤ spare
-
--- each of these pins was taken by its caller and not given back
-abbrev pub IsOwed : List Entry → List Pinned → Type 0
-IsOwed h pins = (who v : ℕ) → how_many (is_unpin v) (entries_by who (numbered 0 h)) + count_by (λ (pin : Pinned). pin.who == who && pin.version == v) pins ≤ how_many (is_pin v) (entries_by who (numbered 0 h))

@@ -12,11 +12,7 @@ mod indexed;
 mod over;
 mod pin;
 mod shared;
-#[cfg(test)]
-mod shared_tests;
 mod store;
-#[cfg(test)]
-mod tests;
 mod versioned;
 
 pub use ahead::Ahead;

@@ -24,6 +24,13 @@ impl Model for Pin {
 }
 
 impl Pin {
+    /// The number of the caller that pinned it.
+    pub fn who(&self) -> u32
+        ensures { result ≡ self.now.who }
+    {
+        self.who
+    }
+
     /// The version that is pinned.
     pub fn version(&self) -> Version
         ensures { result ≡ self.now.version }

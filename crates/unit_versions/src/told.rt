@@ -1,8 +1,8 @@
-use crate::{Entry, Held, History, Store, What};
 use class_pages::Classes;
 use edit_ops::Edit;
 use std::alloc::Global;
 use std::process::Abort;
+use version_store::{Entry, Held, History, Store, What};
 use view_base::{OutOfMemory, Version};
 
 /// What a store's callers did, kept by hand.

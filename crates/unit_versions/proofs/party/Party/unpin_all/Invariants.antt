@@ -1,4 +1,4 @@
-use Rattle.version_store.proofs.tests.party.Party.unpin_all.Given as goal
+use Rattle.unit_versions.proofs.party.Party.unpin_all.Given as goal
 
 abbrev pub invariant-loop-self : goal.invariant-loop-self
 invariant-loop-self l = Unit {0}

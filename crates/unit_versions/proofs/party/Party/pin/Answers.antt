@@ -1,7 +1,7 @@
 use Rattle.std.proofs.Common.{ap, arith}
 use Rattle.version_store.specs.Store.{Pinned}
-use Rattle.version_store.proofs.Owed.{IsOwed-pin}
-use Rattle.version_store.proofs.tests.party.Party.pin.Goals as goal
+use Rattle.unit_versions.proofs.Owed.{IsOwed-pin}
+use Rattle.unit_versions.proofs.party.Party.pin.Goals as goal
 
 pub invariant_of-self : goal.invariant_of-self
 invariant_of-self c = record { owed = rw c.reserve.ensures.items c.args.self.now.owed }

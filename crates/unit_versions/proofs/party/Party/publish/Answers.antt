@@ -1,7 +1,8 @@
 use Rattle.std.proofs.Common.{Result, Ok, Err, OnOk, OnErr, subst, sym}
-use Rattle.version_store.specs.Store.{Stored, IsOwed}
-use Rattle.version_store.proofs.Owed.{IsOwed-publish}
-use Rattle.version_store.proofs.tests.party.Party.publish.Goals as goal
+use Rattle.version_store.specs.Store.{Stored}
+use Rattle.unit_versions.specs.Owed.{IsOwed}
+use Rattle.unit_versions.proofs.Owed.{IsOwed-publish}
+use Rattle.unit_versions.proofs.party.Party.publish.Goals as goal
 
 either : {A E : Type 0} (r : Result A E) (X Y P : Type 0) → OnOk r X → OnErr r Y → (X → P) → (Y → P) → P
 either (Ok a) X Y P ok err first second = first ok

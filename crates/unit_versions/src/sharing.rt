@@ -1,8 +1,7 @@
-ghost use Rattle.std.specs.Prelude.{◌≡◌, None};
+ghost use Rattle.std.specs.Prelude.{◌≡◌, true, None};
 ghost use Rattle.version_store.specs.Sharing.{IsOwn};
 
-use crate::tests::survey;
-use crate::{Entry, Pass, Shared, What};
+use crate::surveys::survey;
 use class_pages::Classes;
 use edit_ops::{Edit, applies, read_edit};
 use std::alloc::Global;
@@ -10,6 +9,7 @@ use std::process::Abort;
 use std::sync::{Arc, Wait};
 use std::test::Fail;
 use std::thread::{Threads, join_mut};
+use version_store::{Entry, Pass, Shared, What};
 use view_base::Point;
 
 /// How many rounds each thread makes: an edit, a pin, and the pin given back.
@@ -28,16 +28,43 @@ struct Round {
 fn two_callers_publish_and_pin(rt: HostRuntime) -> Result<(), Fail> {
     let edit = read_edit(b"edit 0 0 0 9 9 9 all 6", 0)?;
     let (shared, mut root) = Shared::new(rt.alloc(), Arc::new(rt.alloc(), survey(rt.alloc())?)?)?;
-    let mut one = shared.split(&mut root);
-    let mut two = shared.split(&mut root);
-    let published = publish(&rt, &shared, &mut one, &edit);
-    let pinned = pin_and_unpin(&rt, &shared, &mut two);
-    shared.join(&mut root, one);
-    shared.join(&mut root, two);
+    in_two(&rt, &shared, &mut root, &edit);
     let history = shared.close(root).into_history();
-    assert!(rt; published == (1, 1) && pinned == (1, 6));
     has_three(&rt, history.as_slice(), edit);
     Ok(())
+}
+
+/// One caller publishes, and then another pins and gives the pin back.
+fn in_two<R: Wait + Abort>(rt: &R, shared: &Shared, root: &mut Pass, edit: &Edit)
+    requires gate { root.old.gate ≡ shared.now.name }
+    requires root { root.old.root ≡ true }
+    requires given { root.old.given ≡ 0 }
+    requires outside { root.old.turn ≡ None }
+    ensures root { root.new ≡ record root.old { seen = root.new.seen; given = root.new.given; kept = root.new.kept } }
+{
+    let mut one = shared.split(root);
+    let mut two = shared.split(root);
+    publish_and_pin(rt, shared, &mut one, &mut two, edit);
+    shared.join(root, one);
+    shared.join(root, two);
+}
+
+fn publish_and_pin<R: Wait + Abort>(
+    rt: &R,
+    shared: &Shared,
+    one: &mut Pass,
+    two: &mut Pass,
+    edit: &Edit,
+)
+    requires gate { (one.old.gate ≡ shared.now.name) × (two.old.gate ≡ shared.now.name) }
+    requires own { IsOwn two.old }
+    requires outside { (one.old.turn ≡ None) × (two.old.turn ≡ None) }
+    ensures one { one.new ≡ record one.old { seen = one.new.seen; mine = one.new.mine } }
+    ensures two { two.new ≡ record two.old { seen = two.new.seen; mine = two.new.mine } }
+{
+    let published = publish(rt, shared, one, edit);
+    let pinned = pin_and_unpin(rt, shared, two);
+    assert!(rt; published == (1, 1) && pinned == (1, 6));
 }
 
 fn has_three(rt: &impl Abort, history: &[Entry], edit: Edit) {
@@ -90,37 +117,55 @@ fn first_class(classes: &Classes) -> u8 {
     classes.class_at(0)
 }
 
+/// What the threads were told.
+type Rounds = ((Vec<Round>, Vec<Round>), (Vec<Round>, Vec<Round>));
+
 /// Each thread's edit applies or not by what the others' edits made of the record.
 #[test]
 fn four_threads_find_their_calls_in_one_history(rt: HostRuntime) -> Result<(), Fail> {
     let low = read_edit(b"edit 0 0 0 9 9 9 0-15 17", 0)?;
     let high = read_edit(b"edit 0 0 0 9 9 9 16-31 4", 0)?;
     let (shared, mut root) = Shared::new(rt.alloc(), Arc::new(rt.alloc(), survey(rt.alloc())?)?)?;
-    let mut one = shared.split(&mut root);
-    let mut two = shared.split(&mut root);
-    let mut three = shared.split(&mut root);
-    let mut four = shared.split(&mut root);
-    let ((first, second), (third, fourth)) = run_four(
-        &rt,
-        rt.alloc(),
-        &shared,
-        &low,
-        &high,
-        &mut one,
-        &mut two,
-        &mut three,
-        &mut four,
-    );
-    shared.join(&mut root, one);
-    shared.join(&mut root, two);
-    shared.join(&mut root, three);
-    shared.join(&mut root, four);
+    let rounds = in_four(&rt, rt.alloc(), &shared, &low, &high, &mut root);
     let history = shared.close(root).into_history();
-    tells(&rt, history.as_slice(), 1, first.as_slice());
-    tells(&rt, history.as_slice(), 2, second.as_slice());
-    tells(&rt, history.as_slice(), 3, third.as_slice());
-    tells(&rt, history.as_slice(), 4, fourth.as_slice());
+    tells_all(&rt, history.as_slice(), &rounds);
     Ok(())
+}
+
+fn tells_all(rt: &impl Abort, history: &[Entry], rounds: &Rounds) {
+    tells(rt, history, 1, rounds.0.0.as_slice());
+    tells(rt, history, 2, rounds.0.1.as_slice());
+    tells(rt, history, 3, rounds.1.0.as_slice());
+    tells(rt, history, 4, rounds.1.1.as_slice());
+}
+
+/// Splits four passes off, runs each in a thread of its own, and joins them.
+fn in_four<R: Threads + Wait + Abort + Sync>(
+    rt: &R,
+    alloc: Global,
+    shared: &Shared,
+    low: &Edit,
+    high: &Edit,
+    root: &mut Pass,
+) -> Rounds
+    requires gate { root.old.gate ≡ shared.now.name }
+    requires root { root.old.root ≡ true }
+    requires given { root.old.given ≡ 0 }
+    requires outside { root.old.turn ≡ None }
+    ensures root { root.new ≡ record root.old { seen = root.new.seen; given = root.new.given; kept = root.new.kept } }
+{
+    let mut one = shared.split(root);
+    let mut two = shared.split(root);
+    let mut three = shared.split(root);
+    let mut four = shared.split(root);
+    let rounds = run_four(
+        rt, alloc, shared, low, high, &mut one, &mut two, &mut three, &mut four,
+    );
+    shared.join(root, one);
+    shared.join(root, two);
+    shared.join(root, three);
+    shared.join(root, four);
+    rounds
 }
 
 /// Four threads at once, of which two and two have one edit.
@@ -134,9 +179,11 @@ fn run_four<R: Threads + Wait + Abort + Sync>(
     two: &mut Pass,
     three: &mut Pass,
     four: &mut Pass,
-) -> ((Vec<Round>, Vec<Round>), (Vec<Round>, Vec<Round>))
-    requires gate { (one.old.gate ≡ shared.now.name) × (two.old.gate ≡ shared.now.name) × (three.old.gate ≡ shared.now.name) × (four.old.gate ≡ shared.now.name) }
-    requires outside { (one.old.turn ≡ None) × (two.old.turn ≡ None) × (three.old.turn ≡ None) × (four.old.turn ≡ None) }
+) -> Rounds
+    requires first { (one.old.gate ≡ shared.now.name) × (two.old.gate ≡ shared.now.name) }
+    requires second { (three.old.gate ≡ shared.now.name) × (four.old.gate ≡ shared.now.name) }
+    requires outside { (one.old.turn ≡ None) × (two.old.turn ≡ None) }
+    requires free { (three.old.turn ≡ None) × (four.old.turn ≡ None) }
     ensures one { one.new ≡ record one.old { seen = one.new.seen; mine = one.new.mine } }
     ensures two { two.new ≡ record two.old { seen = two.new.seen; mine = two.new.mine } }
     ensures three { three.new ≡ record three.old { seen = three.new.seen; mine = three.new.mine } }
@@ -145,10 +192,12 @@ fn run_four<R: Threads + Wait + Abort + Sync>(
     join_mut(
         rt,
         &mut ||
-            requires { (one.now.gate ≡ shared.now.name) × (two.now.gate ≡ shared.now.name) × (one.now.turn ≡ None) × (two.now.turn ≡ None) }
+            requires gate { (one.now.gate ≡ shared.now.name) × (two.now.gate ≡ shared.now.name) }
+            requires outside { (one.now.turn ≡ None) × (two.now.turn ≡ None) }
         { run_two(rt, alloc, shared, low, high, one, two) },
         &mut ||
-            requires { (three.now.gate ≡ shared.now.name) × (four.now.gate ≡ shared.now.name) × (three.now.turn ≡ None) × (four.now.turn ≡ None) }
+            requires gate { (three.now.gate ≡ shared.now.name) × (four.now.gate ≡ shared.now.name) }
+            requires outside { (three.now.turn ≡ None) × (four.now.turn ≡ None) }
         { run_two(rt, alloc, shared, low, high, three, four) },
     )
 }

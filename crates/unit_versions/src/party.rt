@@ -1,10 +1,10 @@
 ghost use Rattle.std.specs.Prelude.{◌≡◌, ◌+◌, ◌<◌, [], vec_len};
-ghost use Rattle.version_store.specs.Store.{IsOwed};
+ghost use Rattle.unit_versions.specs.Owed.{IsOwed};
 
-use crate::{History, Pin, Store};
 use edit_ops::Edit;
 use std::alloc::Global;
 use std::process::Abort;
+use version_store::{History, Pin, Store};
 use view_base::{OutOfMemory, Version};
 
 /// Callers of one store, with their pins that are out.
@@ -51,7 +51,7 @@ impl Party {
         ensures { vec_len self.new.pins + 1 ≡ vec_len self.old.pins }
     {
         let pin = self.pins.swap_remove(place);
-        self.store.unpin(pin.who, pin);
+        self.store.unpin(pin.who(), pin);
     }
 
     /// Gives every pin back.

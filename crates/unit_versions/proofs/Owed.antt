@@ -7,7 +7,8 @@ use Rattle.view_meaning.specs.Classes as meaning
 use Rattle.version_store.specs.declared.history.What.TheVariants.{Publish, Pin, Unpin}
 use Rattle.version_store.specs.declared.history.Entry.{Entry}
 use Rattle.version_store.specs.Histories.{journal, numbered, HasPinned}
-use Rattle.version_store.specs.Store.{Pinned, IsOwed}
+use Rattle.version_store.specs.Store.{Pinned}
+use Rattle.unit_versions.specs.Owed.{IsOwed}
 use Rattle.version_store.proofs.HistoryLaws.{entry_by, pins-publish, pins-pin, pins-unpin, unpins-publish, unpins-pin, unpins-unpin}
 
 -- 1 where the pin is of this version and caller

@@ -1,7 +1,7 @@
 use Rattle.std.proofs.Common.{ap}
 use Rattle.version_store.specs.Store.{Pinned}
 use Rattle.version_store.proofs.SharedCalls.{HasPinned-shown}
-use Rattle.version_store.proofs.shared_tests.pin_and_unpin.Goals as goal
+use Rattle.unit_versions.proofs.sharing.pin_and_unpin.Goals as goal
 
 pub unpin-requires-clause-pinned : goal.unpin-requires-clause-pinned
 unpin-requires-clause-pinned g c =

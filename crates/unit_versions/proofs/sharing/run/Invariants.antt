@@ -1,5 +1,5 @@
 use Rattle.std.proofs.Common.{◌≡◌}
-use Rattle.version_store.proofs.shared_tests.run.Given as goal
+use Rattle.unit_versions.proofs.sharing.run.Given as goal
 
 abbrev pub invariant-loop : goal.invariant-loop
 invariant-loop g l = l.pass ≡ record l.fn.pass { seen = l.pass.seen; mine = l.pass.mine }
