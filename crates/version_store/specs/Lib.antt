@@ -2,5 +2,4 @@ pub mod Histories
 pub mod Store
 pub mod Sharing
 pub mod Underway
-pub mod Indexed
 pub mod Versioned
