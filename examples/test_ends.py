@@ -83,6 +83,7 @@ WITHOUT = (
     "try_failing.py",
     "try_headline.py",
     "try_host_desk.py",
+    "try_one_worker.py",
     "try_program.py",
     "try_refused.py",
     "try_replies.py",

@@ -19,6 +19,7 @@ import sys
 import tempfile
 
 from real_runs import CAMERA, ROOT, built, survey, wrong
+from script_ends import Words
 
 # The program without its launcher, which starts programs itself.
 BUILT = os.path.join(ROOT, "crates/view_main/out/view_main")
@@ -84,6 +85,7 @@ def run(words, before):
 
 
 def main():
+    Words(__doc__).parse_args()
     if sys.platform != "linux" or platform.machine() != "x86_64":
         print("not tried: the filter is of Linux on x86-64")
         return
